@@ -1,0 +1,7 @@
+pub mod DrillLemmas
+pub mod FilesLemmas
+pub mod HeadLemmas
+pub mod OnlyLemmas
+pub mod ReadLemmas
+pub mod VerdictLemmas
+pub mod WordsLemmas

@@ -1,0 +1,60 @@
+use Rattle.std.proofs.Common.{◌≡◌, ℕ, suc, ◌+◌, ◌≤◌, ◌<◌, List, ◌++◌, length, take, drop, refl, ap, sym, ◌∙◌, Bool, true, false, cond, subst, inl, inr, arith, nat_lt, length-append, length-take, length-drop}
+use Rattle.std.specs.Prelude.{Option, Result, Ok, Err, not, ◌||◌, option_and_then}
+use Rattle.std.proofs.lemmas.Bool.{cases_lt}
+use Rattle.std.proofs.lemmas.Bool.Decides.{nat_tests}
+use Rattle.std.proofs.lemmas.List.{take_all, take-append-drop}
+use Rattle.pcapfile.specs.declared.head.FileHead.{FileHead}
+use Rattle.pcapfile.specs.declared.head_fault.HeadFault.{HeadFault}
+use Rattle.pcapfile.specs.declared.frame.Frame.{Frame}
+use Rattle.pcapfile.specs.Capture.{Records, records_from, behind_head}
+use Rattle.pcapfile.specs.Head.{head_of}
+use Rattle.labtop.specs.declared.capture.TheConstants.{MOST_BUILT}
+use Rattle.labtop.specs.declared.outcome.Outcome.{Outcome}
+use Rattle.labtop.specs.declared.status.Status.{Status}
+use Rattle.labtop.specs.Drill.{Verdict, Delivers, Refused, NotBuilt, limits, is_built, of_capture, of_frame, only_of, verdict_of}
+use Rattle.labtop.specs.Gives.{Gives}
+use Rattle.labtop.proofs.HeadLemmas.{head_of-append}
+
+-- a verdict by the head and the only record
+pub verdict_of_frame : (bytes : List ℕ) (head : FileHead) (o : Option Frame) (rest : List ℕ) → head_of bytes ≡ Ok head → is_built head ≡ true → nat_lt MOST_BUILT (length bytes) ≡ false
+    → rest ≡ drop 24 bytes → o ≡ only_of (records_from (suc (suc (length bytes))) head limits 24 0 rest) → verdict_of bytes ≡ of_frame o
+unfolding verdict_of
+verdict_of_frame bytes head o rest h built small behind same =
+    ap (λ (r : Result FileHead HeadFault). of_capture (length bytes) (behind_head limits bytes r)) h
+    ∙ ap (λ (b : Bool). cond (not b || nat_lt MOST_BUILT (length bytes)) NotBuilt (of_frame (only_of (records_from (suc (suc (length bytes))) head limits 24 0 (drop 24 bytes))))) built
+    ∙ ap (λ (b : Bool). cond b NotBuilt (of_frame (only_of (records_from (suc (suc (length bytes))) head limits 24 0 (drop 24 bytes))))) small
+    ∙ ap (λ (r : List ℕ). of_frame (only_of (records_from (suc (suc (length bytes))) head limits 24 0 r))) (sym behind)
+    ∙ ap of_frame (sym same)
+
+pub gives_at : (r : Result Outcome Status) (v w : Verdict) → v ≡ w → Gives r w → Gives r v
+gives_at r v w e h = subst (λ (x : Verdict). Gives r x) (sym e) h
+
+-- of a file with more bytes than are built the head alone decides
+abbrev of_long : Result FileHead HeadFault → Verdict
+of_long (Err fault) = Refused fault
+of_long (Ok head) = NotBuilt
+
+or_true : (b : Bool) (v : Verdict) → cond (b || true) NotBuilt v ≡ NotBuilt
+or_true true v = refl
+or_true false v = refl
+
+by_head : (bytes : List ℕ) → nat_lt MOST_BUILT (length bytes) ≡ true → (r : Result FileHead HeadFault) → of_capture (length bytes) (behind_head limits bytes r) ≡ of_long r
+by_head bytes long (Err fault) = refl
+by_head bytes long (Ok head) =
+    ap (λ (b : Bool). cond (not (is_built head) || b) NotBuilt (of_frame (only_of (records_from (suc (suc (length bytes))) head limits 24 0 (drop 24 bytes))))) long
+    ∙ or_true (not (is_built head)) _
+
+long_verdict : (bytes : List ℕ) → MOST_BUILT < length bytes → verdict_of bytes ≡ of_long (head_of bytes)
+unfolding verdict_of
+long_verdict bytes long = by_head bytes (let test : nat_lt MOST_BUILT (length bytes) ≡ true = grind (arith, nat_tests) in test) (head_of bytes)
+
+-- the bytes up to one past the most that are built decide
+pub verdict_of-take : (bytes : List ℕ) → verdict_of (take (MOST_BUILT + 1) bytes) ≡ verdict_of bytes
+verdict_of-take bytes = elim (cases_lt MOST_BUILT (length bytes)) [
+  | inl long ↦
+      let front : MOST_BUILT < length (take (MOST_BUILT + 1) bytes) = omega (arith, length-take (MOST_BUILT + 1) bytes) in
+      long_verdict (take (MOST_BUILT + 1) bytes) front
+      ∙ ap of_long (sym (head_of-append (take (MOST_BUILT + 1) bytes) (drop (MOST_BUILT + 1) bytes) (omega arith)) ∙ ap head_of (take-append-drop (MOST_BUILT + 1) bytes))
+      ∙ sym (long_verdict bytes long)
+  | inr short ↦ ap verdict_of (take_all (MOST_BUILT + 1) bytes (omega arith))
+]

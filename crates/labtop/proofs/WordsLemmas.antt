@@ -1,0 +1,28 @@
+use Rattle.std.proofs.Common.{◌≡◌, ℕ, List, [], ◌∷◌, ◌<◌, arith, length, refl, subst}
+use Rattle.std.specs.Borrow.{Bor}
+use Rattle.labtop.specs.declared.words.Asked.TheVariants as asked
+use Rattle.labtop.specs.Words.{Means, Command, Drill, Wrong, Later, command_of, pair_of, texts}
+
+pub wrong_pair : (words : List (Bor (List ℕ))) → (length words ≡ 2 → ⊥) → Means asked.Wrong (pair_of (texts words))
+wrong_pair [] h = tt
+wrong_pair (a ∷ []) h = tt
+wrong_pair (a ∷ b ∷ []) h = absurd (h refl)
+wrong_pair (a ∷ b ∷ c ∷ words) h = tt
+
+pub wrong_short : (words : List (Bor (List ℕ))) → length words < 2 → Means asked.Wrong (command_of (texts words))
+wrong_short [] h = tt
+wrong_short (a ∷ []) h = tt
+wrong_short (a ∷ b ∷ words) h = absurd (omega arith)
+
+pub drill_means : (c o : Bor (List ℕ)) (x : Command) (capture out : List ℕ) → Means (asked.Drill c o) x → x ≡ Drill capture out → (c.now ≡ capture) × (o.now ≡ out)
+drill_means c o x capture out m e = let P : Command → Type 0 = Means (asked.Drill c o) in subst P e m
+
+pub wrong_means : (x : Command) → Means asked.Wrong x → x ≡ Wrong
+wrong_means (Drill a b) m = absurd m
+wrong_means Wrong m = refl
+wrong_means Later m = absurd m
+
+pub later_means : (x : Command) → Means asked.Later x → x ≡ Later
+later_means (Drill a b) m = absurd m
+later_means Wrong m = absurd m
+later_means Later m = refl

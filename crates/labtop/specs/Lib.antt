@@ -1,0 +1,15 @@
+pub mod Linkip
+pub mod Porthdr
+pub mod Scapconf
+pub mod Handler
+pub mod Tally
+pub mod Convo
+pub mod Drill
+pub mod Names
+pub mod Words
+pub mod StatusText
+pub mod Causes
+pub mod Answers
+pub mod Views
+pub mod Gives
+pub mod Rows

@@ -1,0 +1,75 @@
+// From a capture to its files.
+ghost use Rattle.std.specs.Prelude.{◌≡◌, ◌≢◌, ◌⊎◌, ◌≤◌, ◌++◌, ℕ, List, IfOk, IfErr, IfSome, IfNone, OnOk, IsErrOf};
+ghost use Rattle.scap_world.specs.Causes.{Rose};
+ghost use Rattle.scap_world.specs.Files.{file_of, told_file, told_put};
+ghost use Rattle.labtop.specs.Names.{delivery_name, report_name};
+ghost use Rattle.labtop.specs.Drill.{verdict_of};
+ghost use Rattle.labtop.specs.Answers.{Allows, AllowsUnread, IsBefore, IsPart, LeavesParts, written};
+
+use crate::Status;
+use crate::files::{read_capture, write_file};
+use crate::names::{name_of_delivery, name_of_report};
+use crate::outcome::{Outcome, outcome_for};
+use scap_world::Shelf;
+use std::alloc::{AllocError, Global};
+
+/// Writes both files.
+fn write_both<S: Shelf>(
+    alloc: Global,
+    shelf: &mut S,
+    out: &str,
+    outcome: &Outcome,
+) -> Result<(), Status>
+    ensures ok { OnOk result (S.files shelf.new ≡ told_put (report_name out.now) outcome.now.report.items
+        (told_put (delivery_name out.now) outcome.now.delivery.items (S.files shelf.old))) }
+    ensures others { (other : List ℕ) → other ≢ delivery_name out.now → other ≢ report_name out.now
+        → told_file (S.files shelf.new) other ≡ told_file (S.files shelf.old) other }
+    ensures delivery_part { IsPart outcome.now.delivery.items (told_file (S.files shelf.old) (delivery_name out.now))
+        (told_file (S.files shelf.new) (delivery_name out.now)) }
+    ensures report_part { IsPart outcome.now.report.items (told_file (S.files shelf.old) (report_name out.now))
+        (told_file (S.files shelf.new) (report_name out.now)) }
+    ensures kinds { IfErr result (λ e. (e ≡ Status.Memory) ⊎ (e ≡ Status.WriteFault)) }
+    ensures cause { IsErrOf result Status.WriteFault
+        → Rose (S.write_faults shelf.old (delivery_name out.now)) (S.write_faults shelf.new (delivery_name out.now))
+        ⊎ Rose (S.write_faults shelf.old (report_name out.now)) (S.write_faults shelf.new (report_name out.now)) }
+    ensures read_later { (other : List ℕ) → S.read_faults shelf.old other ≤ S.read_faults shelf.new other }
+    ensures open_files { S.open_files shelf.new ≡ S.open_files shelf.old }
+{
+    let delivery = name_of_delivery(alloc, out)?;
+    let report = name_of_report(alloc, out)?;
+    write_file(shelf, delivery.as_str(), &outcome.delivery)?;
+    write_file(shelf, report.as_str(), &outcome.report)?;
+    Ok(())
+}
+
+/// Replays a capture of one record.
+pub(crate) fn drill<S: Shelf>(alloc: Global, capture: &str, out: &str, shelf: &mut S) -> Status
+    ensures verdict { IfSome (told_file (S.files shelf.old) capture.now) (λ bytes. Allows (verdict_of bytes) result) }
+    ensures unread { IfSome (S.files shelf.old) (λ files. IfNone (file_of files capture.now) (AllowsUnread result)) }
+    ensures parts { IfSome (told_file (S.files shelf.old) capture.now)
+        (λ bytes. LeavesParts (verdict_of bytes) out.now (S.files shelf.old) (S.files shelf.new)) }
+    ensures done { result ≡ Status.Done → IfSome (told_file (S.files shelf.old) capture.now)
+        (λ bytes. S.files shelf.new ≡ written (verdict_of bytes) out.now (S.files shelf.old)) }
+    ensures before { IsBefore result → S.files shelf.new ≡ S.files shelf.old }
+    ensures others { (other : List ℕ) → other ≢ delivery_name out.now → other ≢ report_name out.now
+        → told_file (S.files shelf.new) other ≡ told_file (S.files shelf.old) other }
+    ensures read { result ≡ Status.ReadFault → Rose (S.read_faults shelf.old capture.now) (S.read_faults shelf.new capture.now) }
+    ensures write { result ≡ Status.WriteFault
+        → Rose (S.write_faults shelf.old (delivery_name out.now)) (S.write_faults shelf.new (delivery_name out.now))
+        ⊎ Rose (S.write_faults shelf.old (report_name out.now)) (S.write_faults shelf.new (report_name out.now)) }
+    ensures never { result ≢ Status.Usage }
+    ensures open_files { S.open_files shelf.new ≡ S.open_files shelf.old }
+{
+    let bytes = match read_capture(alloc, shelf, capture) {
+        Ok(bytes) => bytes,
+        Err(status) => return status,
+    };
+    let outcome = match outcome_for(alloc, &bytes) {
+        Ok(outcome) => outcome,
+        Err(status) => return status,
+    };
+    match write_both(alloc, shelf, out, &outcome) {
+        Ok(()) => Status::Done,
+        Err(status) => status,
+    }
+}

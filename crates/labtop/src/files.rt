@@ -1,0 +1,129 @@
+// Whole files of a shelf.
+ghost use Rattle.std.specs.Prelude.{◌≡◌, ◌≢◌, ◌⊎◌, ◌≤◌, ◌+◌, ◌<◌, ℕ, List, [], Some, IfOk, IfErr, IfSome, OnOk, OnErr, IsErrOf, take, length, vec_len};
+ghost use Rattle.scap_world.specs.Causes.{HasCause, Rose};
+ghost use Rattle.scap_world.specs.Files.{told_file, told_put, IsThere};
+ghost use Rattle.scap_world.specs.Contents.{prefixed};
+ghost use Rattle.labtop.specs.Causes.{writes_status, reads_status};
+ghost use Rattle.labtop.specs.Answers.{IsPart};
+ghost use Rattle.labtop.specs.Drill.{verdict_of};
+
+use crate::Status;
+use crate::capture::MOST_BUILT;
+use scap_world::{Shelf, Sink, Source, WorldFault, write_whole};
+use std::alloc::{AllocError, Global};
+
+/// The most bytes of one read.
+const PIECE: usize = 65_536;
+
+fn status_of_write(fault: WorldFault) -> Status
+    ensures { result ≡ writes_status fault }
+{
+    match fault {
+        WorldFault::Memory => Status::Memory,
+        WorldFault::Failed => Status::WriteFault,
+    }
+}
+
+fn status_of_read(fault: WorldFault) -> Status
+    ensures { result ≡ reads_status fault }
+{
+    match fault {
+        WorldFault::Memory => Status::Memory,
+        WorldFault::Failed => Status::ReadFault,
+    }
+}
+
+/// Room for one read.
+fn buffer(alloc: Global) -> Result<Vec<u8>, AllocError>
+    ensures { IfOk result (λ v. vec_len v ≡ PIECE) }
+{
+    vec![in alloc; 0u8; PIECE]
+}
+
+/// Reads once, behind the bytes that were read.
+fn read_more<S: Source>(
+    source: &mut S,
+    piece: &mut [u8],
+    bytes: &mut Vec<u8>,
+) -> Result<usize, WorldFault>
+    requires { 0 < length piece.old }
+    ensures same { OnOk result (prefixed bytes.old.items (S.left source.old) ≡ prefixed bytes.new.items (S.left source.new)) }
+    ensures bound { IfOk result (λ n. n ≤ length piece.old) }
+    ensures grows { IfOk result (λ n. length bytes.new.items ≡ length bytes.old.items + n) }
+    ensures end { IfOk result (λ n. n ≡ 0 → IfSome (S.left source.new) (λ rest. rest ≡ [])) }
+    ensures cause { HasCause (S.faults source.old) (S.faults source.new) result }
+{
+    let n = source.read(piece)?;
+    bytes.extend_from_slice(&piece[..n])?;
+    Ok(n)
+}
+
+/// The first bytes of a source, up to one past the most that are taken.
+fn read_front<S: Source>(alloc: Global, source: &mut S) -> Result<Vec<u8>, WorldFault>
+    ensures bytes { IfOk result (λ v. IfSome (S.left source.old) (λ bytes. v.items ≡ take (MOST_BUILT + 1) bytes)) }
+    ensures cause { HasCause (S.faults source.old) (S.faults source.new) result }
+{
+    let mut bytes = Vec::new(alloc);
+    let mut piece = buffer(alloc)?;
+    while bytes.len() <= MOST_BUILT {
+        let room = PIECE.min(MOST_BUILT + 1 - bytes.len());
+        let n = read_more(source, &mut piece[..room], &mut bytes)?;
+        if n == 0 {
+            return Ok(bytes);
+        }
+    }
+    Ok(bytes)
+}
+
+/// The bytes of a capture, up to one past the most that are taken: they ask for what the whole file asks for.
+pub(crate) fn read_capture<S: Shelf>(
+    alloc: Global,
+    shelf: &mut S,
+    name: &str,
+) -> Result<Vec<u8>, Status>
+    ensures verdict { IfOk result (λ v. IfSome (told_file (S.files shelf.old) name.now) (λ bytes. verdict_of bytes ≡ verdict_of v.items)) }
+    ensures there { OnOk result (IsThere (S.files shelf.old) name.now) }
+    ensures files { S.files shelf.new ≡ S.files shelf.old }
+    ensures kinds { IfErr result (λ e. (e ≡ Status.Memory) ⊎ (e ≡ Status.ReadFault)) }
+    ensures cause { IsErrOf result Status.ReadFault → Rose (S.read_faults shelf.old name.now) (S.read_faults shelf.new name.now) }
+    ensures read_later { (other : List ℕ) → S.read_faults shelf.old other ≤ S.read_faults shelf.new other }
+    ensures write_later { (other : List ℕ) → S.write_faults shelf.old other ≤ S.write_faults shelf.new other }
+    ensures open_files { S.open_files shelf.new ≡ S.open_files shelf.old }
+{
+    let mut source = match shelf.open_read(name) {
+        Ok(source) => source,
+        Err(fault) => return Err(status_of_read(fault)),
+    };
+    let bytes = read_front(alloc, &mut source);
+    shelf.end_read(name, source);
+    match bytes {
+        Ok(bytes) => Ok(bytes),
+        Err(fault) => Err(status_of_read(fault)),
+    }
+}
+
+/// Makes a file of that text.
+pub(crate) fn write_file<S: Shelf>(shelf: &mut S, name: &str, text: &[u8]) -> Result<(), Status>
+    ensures ok { OnOk result (S.files shelf.new ≡ told_put name.now text.now (S.files shelf.old)) }
+    ensures others { (other : List ℕ) → other ≢ name.now → told_file (S.files shelf.new) other ≡ told_file (S.files shelf.old) other }
+    ensures part { IsPart text.now (told_file (S.files shelf.old) name.now) (told_file (S.files shelf.new) name.now) }
+    ensures kinds { IfErr result (λ e. (e ≡ Status.Memory) ⊎ (e ≡ Status.WriteFault)) }
+    ensures cause { IsErrOf result Status.WriteFault → Rose (S.write_faults shelf.old name.now) (S.write_faults shelf.new name.now) }
+    ensures read_later { (other : List ℕ) → S.read_faults shelf.old other ≤ S.read_faults shelf.new other }
+    ensures write_later { (other : List ℕ) → S.write_faults shelf.old other ≤ S.write_faults shelf.new other }
+    ensures open_files { S.open_files shelf.new ≡ S.open_files shelf.old }
+{
+    let mut sink = match shelf.create(name) {
+        Ok(sink) => sink,
+        Err(fault) => return Err(status_of_write(fault)),
+    };
+    let written = write_whole(&mut sink, text);
+    let finished = shelf.finish(name, sink);
+    if let Err(fault) = written {
+        return Err(status_of_write(fault));
+    }
+    match finished {
+        Ok(()) => Ok(()),
+        Err(_) => Err(Status::WriteFault),
+    }
+}

@@ -1,0 +1,4 @@
+pub mod CaptureLemmas
+pub mod PlaceLemmas
+pub mod RecordLemmas
+pub mod RunLemmas

@@ -1,0 +1,8 @@
+use Rattle.std.proofs.Common.{refl}
+use Rattle.pcapfile.specs.Head.{head_of}
+use Rattle.pcapfile.specs.Capture.{place_of, record_at, records_from}
+use Rattle.pcapfile.proofs.rows.a_second_record_is_too_big.Goals as goal
+
+pub returns : goal.returns
+unfolding head_of place_of record_at records_from
+returns c = refl

@@ -1,0 +1,150 @@
+ghost use Rattle.std.specs.Prelude.{◌≡◌, ◌+◌, ◌≤◌, ◌<◌, ◌++◌, ◌^◌, [], IfOk, OnOk, OnErr, length, drop, vec_len};
+
+use crate::found::{Found, HEADER_SIZE, found_at};
+use crate::head::HEAD_SIZE;
+use crate::{FileHead, Frame, FrameBytes, Memory, Next, Tail};
+use std::alloc::Global;
+use std::marker::Model;
+
+/// The records of a capture behind its file header, as its bytes come: an offset in the file, the number of records
+/// before it, and the bytes from there that have come.
+#[derive(Drop)]
+pub struct Frames {
+    alloc: Global,
+    head: FileHead,
+    most_frames: u32,
+    most_bytes: u64,
+    count: u32,
+    at: u64,
+    stream: Vec<u8>,
+    place: usize,
+}
+
+impl Model for Frames {
+    ghost use Rattle.std.specs.Prelude.{◌+◌, ◌*◌, ◌≤◌, drop, vec_len};
+    ghost use Rattle.pcapfile.specs.State.{State};
+
+    ghost Value = { State };
+
+    ghost view = { λ f. record {
+      head = f.head;
+      limits = record { frames = f.most_frames; bytes = f.most_bytes };
+      at = f.at;
+      count = f.count;
+      rest = drop f.place f.stream.items;
+    } };
+
+    // The bytes before `place` were read. The offset stays below 2 ^ 64, since each record has at most 262,160 bytes.
+    ghost invariant = { λ f. (f.place ≤ vec_len f.stream) × (f.count ≤ f.most_frames) × (f.at ≤ 24 + 262160 * f.count) };
+}
+
+/// Takes so many bytes from the front.
+fn cut_front(bytes: &mut Vec<u8>, n: usize)
+    requires { n ≤ vec_len bytes.old }
+    ensures { bytes.new.items ≡ drop n bytes.old.items }
+{
+    bytes.drain(..n);
+}
+
+impl Frames {
+    ghost use Rattle.std.specs.Prelude.{◌≡◌, ◌++◌, [], IfOk, OnOk, OnErr};
+    ghost use Rattle.pcapfile.specs.State.{State};
+    ghost use Rattle.pcapfile.specs.Capture.{Ends};
+    ghost use Rattle.pcapfile.specs.Reading.{place_at, Answers, IsOpen, end_of_tail};
+    ghost use Rattle.pcapfile.specs.Laws.{opened, Feeds, Reads};
+
+    /// Nothing has come yet. At most `most_frames` records and `most_bytes` bytes of the file are read.
+    pub fn new(alloc: Global, head: FileHead, most_frames: u32, most_bytes: u64) -> Frames
+        ensures { result ≡ opened head (record { frames = most_frames; bytes = most_bytes }) }
+    {
+        Frames {
+            alloc,
+            head,
+            most_frames,
+            most_bytes,
+            count: 0,
+            at: HEAD_SIZE as u64,
+            stream: Vec::new(alloc),
+            place: 0,
+        }
+    }
+
+    /// Lets go of the bytes that were read, once they are more than the others.
+    fn let_go(&mut self)
+        ensures { self.new ≡ self.old }
+    {
+        if self.place > self.stream.len() / 2 {
+            cut_front(&mut self.stream, self.place);
+            self.place = 0;
+        }
+    }
+
+    /// Appends to the stream, whose first byte is the one at offset 24 of the file. What was read is let go on
+    /// the way, and no more bytes are moved for it than were read.
+    pub fn feed(&mut self, piece: &[u8]) -> Result<(), Memory>
+        ensures ok { OnOk result (self.new ≡ record self.old { rest = self.old.rest ++ piece.now }) }
+        ensures err { OnErr result (self.new ≡ self.old) }
+        ensures run { OnOk result (Feeds self.old piece.now self.new) }
+    {
+        self.let_go();
+        self.stream.extend_from_slice(piece)?;
+        Ok(())
+    }
+
+    /// The next record of the stream so far; `More` where no record is whole and no fault stands. A record and a fault
+    /// are the same whatever is fed later.
+    pub fn next(&mut self) -> Result<Next, Memory>
+        ensures ok { IfOk result (λ next. Answers self.old next self.new) }
+        ensures err { OnErr result (self.new ≡ self.old) }
+        ensures run { IfOk result (λ next. Reads self.old next self.new) }
+    {
+        let next = self.read()?;
+        Ok(next)
+    }
+
+    // What stands next, and the step behind it.
+    #[tactic(auto, unfolding(crate::specs::Capture::place_of, crate::specs::Capture::record_at))]
+    fn read(&mut self) -> Result<Next, Memory>
+        ensures ok { IfOk result (λ next. Answers self.old next self.new) }
+        ensures err { OnErr result (self.new ≡ self.old) }
+    {
+        let rest = &self.stream[self.place..];
+        let at = self.at;
+        match found_at(
+            self.head,
+            self.most_frames,
+            self.most_bytes,
+            at,
+            self.count,
+            rest,
+        ) {
+            Found::Open => Ok(Next::More),
+            Found::Fault(fault) => Ok(Next::Fault(fault)),
+            Found::Record { moment, len } => {
+                let bytes = Vec::from_slice(self.alloc, &rest[HEADER_SIZE..HEADER_SIZE + len])?;
+                self.at += (HEADER_SIZE + len) as u64;
+                self.place += HEADER_SIZE + len;
+                self.count += 1;
+                Ok(Next::Whole(Frame {
+                    at,
+                    moment,
+                    bytes: FrameBytes::of(bytes),
+                }))
+            }
+        }
+    }
+
+    /// How the stream ended, where the last `next` answered `More`.
+    #[tactic(auto, unfolding(crate::specs::Capture::place_of, crate::specs::Capture::record_at))]
+    pub fn finish(self) -> Tail
+        requires { IsOpen (place_at self) }
+        ensures { place_at self ≡ Ends (end_of_tail result) }
+    {
+        let left = self.stream.len() - self.place;
+        if left == 0 {
+            Tail::Whole
+        } else {
+            Tail::Cut { bytes: left as u64 }
+        }
+    }
+}

@@ -1,0 +1,42 @@
+//! What the definition of a capture means, each law as the contract of a function with an empty body.
+ghost use Rattle.std.specs.Prelude.{ℕ, List};
+ghost use Rattle.pcapfile.specs.declared.frame.Frame.{Frame};
+ghost use Rattle.pcapfile.specs.declared.frame_fault.FrameFault.{FrameFault};
+ghost use Rattle.pcapfile.specs.declared.head.FileHead.{FileHead};
+ghost use Rattle.pcapfile.specs.Capture.{Limits};
+ghost use Rattle.pcapfile.specs.State.{State};
+ghost use Rattle.pcapfile.specs.Laws.{RecordsStand, CaptureAccounts, TurnsServe, FaultStays, RecordStays, HoweverFed};
+
+/// Each record of a capture stands at the offset 24 plus the sizes of all earlier ones, a size being 16 bytes and the
+/// captured length, and its moment and its bytes are those that the file has there.
+pub fn records_stand_in_a_row()
+    ensures { (limits : Limits) (file : List ℕ) → RecordsStand limits file }
+{}
+
+/// A whole capture has 24 bytes and the sizes of all records; one that is cut has those and the bytes that are said;
+/// a record that is too big stands right behind them; and one that is too long has bytes behind them, and as many
+/// records as are read or more bytes than are read.
+pub fn each_byte_is_accounted_for()
+    ensures { (limits : Limits) (file : List ℕ) → CaptureAccounts limits file }
+{}
+
+/// More turns than there are bytes change no record, so the definition doesn't depend on the number of turns.
+pub fn any_turns_serve()
+    ensures { (head : FileHead) (limits : Limits) (at count : ℕ) (rest : List ℕ) → TurnsServe head limits at count rest }
+{}
+
+/// A fault stays the answer for good, whatever is fed later.
+pub fn a_fault_stays()
+    ensures { (s : State) (fault : FrameFault) → FaultStays s fault }
+{}
+
+/// A whole record is the same whatever is fed later, and what is fed comes behind it.
+pub fn a_record_stays()
+    ensures { (s : State) (frame : Frame) → RecordStays s frame }
+{}
+
+/// However the bytes behind a file header are fed, in whatever pieces and with records read between them, the records
+/// up to the end are those of the capture, and the end is its end.
+pub fn records_are_those_however_fed()
+    ensures { (limits : Limits) (file : List ℕ) → HoweverFed limits file }
+{}

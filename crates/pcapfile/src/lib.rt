@@ -1,0 +1,32 @@
+//! Capture files of pcap 2.4: the file header, and the records behind it as the bytes of the file come.
+//! Each answer is the one that the definition of a capture in specs/ gives for the bytes so far, and a record or a fault stays the answer whatever comes behind.
+//! Stands on byteorder.
+#![tactic(auto)]
+
+mod bytes;
+mod found;
+mod frame;
+mod frame_fault;
+mod frames;
+mod head;
+mod head_fault;
+pub mod laws;
+mod link;
+mod memory;
+mod next;
+mod number;
+pub mod rows;
+mod tail;
+#[cfg(test)]
+mod tests;
+
+pub use bytes::FrameBytes;
+pub use frame::Frame;
+pub use frame_fault::FrameFault;
+pub use frames::Frames;
+pub use head::FileHead;
+pub use head_fault::HeadFault;
+pub use link::Link;
+pub use memory::Memory;
+pub use next::Next;
+pub use tail::Tail;

@@ -1,0 +1,64 @@
+//! The lab commands over real files: `scaplab drill CAPTURE OUT`.
+//! It prints the status in words and ends with its number.
+//! Stands on labtop (the commands) and scap_world (real files).
+#![tactic(auto)]
+
+use labtop::{Memory, Status, lab_top};
+use scap_world::FileShelf;
+use std::alloc::Global;
+use std::fs::File;
+use std::io::Write;
+use std::process::ExitCode;
+use std::rt::{Env, Files};
+use std::{env, io};
+
+const USAGE: &str = "usage: scaplab drill|make|audit|match WORDS";
+
+/// The words of the command line. One that is no text makes them faulty.
+fn words(rt: &(impl Env + AllocGlobal)) -> Result<Vec<String>, Status> {
+    match env::args(rt) {
+        Ok(args) => Ok(args.collect(rt.alloc())?),
+        Err(fault) if fault.kind() == io::ErrorKind::InvalidData => Err(Status::Usage),
+        Err(_) => Err(Status::Memory),
+    }
+}
+
+fn run<R: Env + Files<File = File> + AllocGlobal + Drop>(rt: R) -> Result<Status, Status> {
+    let alloc = rt.alloc();
+    let owned = words(&rt)?;
+    let mut words = Vec::new(alloc);
+    for word in &owned {
+        words.push(word.as_str())?;
+    }
+    Ok(lab_top(alloc, &words, &mut FileShelf::new(rt)).status)
+}
+
+fn line_of(alloc: Global, status: Status) -> Result<Vec<u8>, Memory> {
+    let mut line = Vec::new(alloc);
+    status.put(USAGE, &mut line)?;
+    line.push(b'\n')?;
+    Ok(line)
+}
+
+/// Prints the status, which is want of memory where there is none for its text.
+fn print(rt: &(impl Print + AllocGlobal), status: Status) -> io::Result<Status> {
+    match line_of(rt.alloc(), status) {
+        Ok(line) => {
+            io::writer(rt).write_all(&line)?;
+            Ok(status)
+        }
+        Err(Memory) => {
+            rt.println("out of memory")?;
+            Ok(Status::Memory)
+        }
+    }
+}
+
+fn main(rt: HostRuntime) -> ExitCode {
+    let status = match run(rt) {
+        Ok(status) => status,
+        Err(status) => status,
+    };
+    let ended = print(&rt, status).unwrap_or(Status::WriteFault);
+    ExitCode::from(ended.number())
+}
