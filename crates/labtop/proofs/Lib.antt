@@ -1,7 +1,11 @@
+pub mod ConversationsLemmas
+pub mod DeliverLemmas
 pub mod DrillLemmas
 pub mod FilesLemmas
+pub mod FramesLemmas
 pub mod HeadLemmas
-pub mod OnlyLemmas
+pub mod PacketsLemmas
 pub mod ReadLemmas
+pub mod StandingLemmas
 pub mod VerdictLemmas
 pub mod WordsLemmas

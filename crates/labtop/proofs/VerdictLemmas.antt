@@ -1,30 +1,30 @@
-use Rattle.std.proofs.Common.{◌≡◌, ℕ, suc, ◌+◌, ◌≤◌, ◌<◌, List, ◌++◌, length, take, drop, refl, ap, sym, ◌∙◌, Bool, true, false, cond, subst, inl, inr, arith, nat_lt, length-append, length-take, length-drop}
-use Rattle.std.specs.Prelude.{Option, Result, Ok, Err, not, ◌||◌, option_and_then}
+use Rattle.std.proofs.Common.{◌≡◌, ℕ, suc, ◌+◌, ◌<◌, List, length, take, drop, refl, ap, sym, ◌∙◌, Bool, true, false, cond, subst, inl, inr, arith, nat_lt, length-take}
+use Rattle.std.specs.Prelude.{Option, Result, Ok, Err, not, ◌||◌}
 use Rattle.std.proofs.lemmas.Bool.{cases_lt}
 use Rattle.std.proofs.lemmas.Bool.Decides.{nat_tests}
 use Rattle.std.proofs.lemmas.List.{take_all, take-append-drop}
 use Rattle.pcapfile.specs.declared.head.FileHead.{FileHead}
 use Rattle.pcapfile.specs.declared.head_fault.HeadFault.{HeadFault}
 use Rattle.pcapfile.specs.declared.frame.Frame.{Frame}
-use Rattle.pcapfile.specs.Capture.{Records, records_from, behind_head}
+use Rattle.pcapfile.specs.Capture.{records_from, behind_head}
 use Rattle.pcapfile.specs.Head.{head_of}
 use Rattle.labtop.specs.declared.capture.TheConstants.{MOST_BUILT}
 use Rattle.labtop.specs.declared.outcome.Outcome.{Outcome}
 use Rattle.labtop.specs.declared.status.Status.{Status}
-use Rattle.labtop.specs.Drill.{Verdict, Delivers, Refused, NotBuilt, limits, is_built, of_capture, of_frame, only_of, verdict_of}
+use Rattle.labtop.specs.Drill.{Verdict, Refused, NotBuilt, limits, is_built, of_capture, of_frames, whole_of, verdict_of}
 use Rattle.labtop.specs.Gives.{Gives}
 use Rattle.labtop.proofs.HeadLemmas.{head_of-append}
 
--- a verdict by the head and the only record
-pub verdict_of_frame : (bytes : List ℕ) (head : FileHead) (o : Option Frame) (rest : List ℕ) → head_of bytes ≡ Ok head → is_built head ≡ true → nat_lt MOST_BUILT (length bytes) ≡ false
-    → rest ≡ drop 24 bytes → o ≡ only_of (records_from (suc (suc (length bytes))) head limits 24 0 rest) → verdict_of bytes ≡ of_frame o
+-- a verdict by the head and the records
+pub verdict_of_frames : (bytes : List ℕ) (head : FileHead) (o : Option (List Frame)) (rest : List ℕ) → head_of bytes ≡ Ok head → is_built head ≡ true → nat_lt MOST_BUILT (length bytes) ≡ false
+    → rest ≡ drop 24 bytes → o ≡ whole_of (records_from (suc (suc (length bytes))) head limits 24 0 rest) → verdict_of bytes ≡ of_frames o
 unfolding verdict_of
-verdict_of_frame bytes head o rest h built small behind same =
+verdict_of_frames bytes head o rest h built small behind same =
     ap (λ (r : Result FileHead HeadFault). of_capture (length bytes) (behind_head limits bytes r)) h
-    ∙ ap (λ (b : Bool). cond (not b || nat_lt MOST_BUILT (length bytes)) NotBuilt (of_frame (only_of (records_from (suc (suc (length bytes))) head limits 24 0 (drop 24 bytes))))) built
-    ∙ ap (λ (b : Bool). cond b NotBuilt (of_frame (only_of (records_from (suc (suc (length bytes))) head limits 24 0 (drop 24 bytes))))) small
-    ∙ ap (λ (r : List ℕ). of_frame (only_of (records_from (suc (suc (length bytes))) head limits 24 0 r))) (sym behind)
-    ∙ ap of_frame (sym same)
+    ∙ ap (λ (b : Bool). cond (not b || nat_lt MOST_BUILT (length bytes)) NotBuilt (of_frames (whole_of (records_from (suc (suc (length bytes))) head limits 24 0 (drop 24 bytes))))) built
+    ∙ ap (λ (b : Bool). cond b NotBuilt (of_frames (whole_of (records_from (suc (suc (length bytes))) head limits 24 0 (drop 24 bytes))))) small
+    ∙ ap (λ (r : List ℕ). of_frames (whole_of (records_from (suc (suc (length bytes))) head limits 24 0 r))) (sym behind)
+    ∙ ap of_frames (sym same)
 
 pub gives_at : (r : Result Outcome Status) (v w : Verdict) → v ≡ w → Gives r w → Gives r v
 gives_at r v w e h = subst (λ (x : Verdict). Gives r x) (sym e) h
@@ -41,7 +41,7 @@ or_true false v = refl
 by_head : (bytes : List ℕ) → nat_lt MOST_BUILT (length bytes) ≡ true → (r : Result FileHead HeadFault) → of_capture (length bytes) (behind_head limits bytes r) ≡ of_long r
 by_head bytes long (Err fault) = refl
 by_head bytes long (Ok head) =
-    ap (λ (b : Bool). cond (not (is_built head) || b) NotBuilt (of_frame (only_of (records_from (suc (suc (length bytes))) head limits 24 0 (drop 24 bytes))))) long
+    ap (λ (b : Bool). cond (not (is_built head) || b) NotBuilt (of_frames (whole_of (records_from (suc (suc (length bytes))) head limits 24 0 (drop 24 bytes))))) long
     ∙ or_true (not (is_built head)) _
 
 long_verdict : (bytes : List ℕ) → MOST_BUILT < length bytes → verdict_of bytes ≡ of_long (head_of bytes)

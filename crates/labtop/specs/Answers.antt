@@ -2,7 +2,8 @@ use Rattle.std.specs.Prelude.{ℕ, ◌≡◌, ◌⊎◌, List, take, Option, Som
 use Rattle.scap_world.specs.Files.{File, told_file, told_put}
 use Rattle.labtop.specs.declared.status.Status.{Status}
 use Rattle.labtop.specs.declared.status.Status.TheVariants.{Done, Memory, Usage, ReadFault, WriteFault, NotPcap, Unbuilt}
-use Rattle.labtop.specs.Convo.{delivery_text, report_text}
+use Rattle.labtop.specs.Convo.{delivery_text}
+use Rattle.labtop.specs.Report.{report_text}
 use Rattle.labtop.specs.Names.{delivery_name, report_name}
 use Rattle.labtop.specs.Drill.{Verdict, Delivers, Refused, NotBuilt}
 
@@ -11,10 +12,10 @@ abbrev pub Allows : Verdict → Status → Type 0
 Allows verdict Memory = Unit {0}
 Allows verdict ReadFault = Unit {0}
 Allows verdict Usage = ⊥
-Allows (Delivers packet) Done = Unit {0}
-Allows (Delivers packet) WriteFault = Unit {0}
-Allows (Delivers packet) (NotPcap kind) = ⊥
-Allows (Delivers packet) Unbuilt = ⊥
+Allows (Delivers packets) Done = Unit {0}
+Allows (Delivers packets) WriteFault = Unit {0}
+Allows (Delivers packets) (NotPcap kind) = ⊥
+Allows (Delivers packets) Unbuilt = ⊥
 Allows (Refused fault) Done = ⊥
 Allows (Refused fault) WriteFault = ⊥
 Allows (Refused fault) (NotPcap kind) = kind ≡ fault
@@ -36,7 +37,7 @@ AllowsUnread Unbuilt = ⊥
 
 -- the files after a run that is done
 abbrev pub written : Verdict → List ℕ → Option (List File) → Option (List File)
-written (Delivers packet) out files = told_put (report_name out) (report_text packet) (told_put (delivery_name out) (delivery_text packet) files)
+written (Delivers packets) out files = told_put (report_name out) (report_text packets) (told_put (delivery_name out) (delivery_text packets) files)
 written (Refused fault) out files = files
 written NotBuilt out files = files
 
@@ -46,9 +47,9 @@ IsPart text old new = (new ≡ old) ⊎ ((n : ℕ) × (new ≡ Some (take n text
 
 -- the files after a run, whatever its status
 abbrev pub LeavesParts : Verdict → List ℕ → Option (List File) → Option (List File) → Type 0
-LeavesParts (Delivers packet) out old new =
-    IsPart (delivery_text packet) (told_file old (delivery_name out)) (told_file new (delivery_name out))
-    × IsPart (report_text packet) (told_file old (report_name out)) (told_file new (report_name out))
+LeavesParts (Delivers packets) out old new =
+    IsPart (delivery_text packets) (told_file old (delivery_name out)) (told_file new (delivery_name out))
+    × IsPart (report_text packets) (told_file old (report_name out)) (told_file new (report_name out))
 LeavesParts (Refused fault) out old new = new ≡ old
 LeavesParts NotBuilt out old new = new ≡ old
 

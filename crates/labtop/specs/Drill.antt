@@ -1,17 +1,16 @@
-use Rattle.std.specs.Prelude.{ℕ, List, [], ◌∷◌, length, Bool, true, false, not, ◌&&◌, ◌||◌, nat_lt, if◌then◌else◌, Option, Some, None, option_and_then, Result, Ok, Err}
+use Rattle.std.specs.Prelude.{ℕ, ◌+◌, List, [], ◌∷◌, length, Bool, true, false, not, ◌&&◌, ◌||◌, nat_lt, nat_le, if◌then◌else◌, Option, Some, None, Result, Ok, Err}
 use Rattle.pcapfile.specs.declared.head.FileHead.{FileHead}
 use Rattle.pcapfile.specs.declared.head_fault.HeadFault.{HeadFault}
 use Rattle.pcapfile.specs.declared.link.Link.{Link}
 use Rattle.pcapfile.specs.declared.link.Link.TheVariants.{Ethernet, Raw, Cooked, Cooked2}
 use Rattle.pcapfile.specs.declared.frame.Frame.{Frame}
 use Rattle.pcapfile.specs.Capture.{Limits, End, Whole, Cut, TooBig, TooLong, Records, capture_of}
-use Rattle.labtop.specs.declared.capture.TheConstants.{MOST_FRAMES, MOST_BYTES, MOST_BUILT}
-use Rattle.labtop.specs.Porthdr.{kind_of}
-use Rattle.labtop.specs.Scapconf.{Packet, accepted_at}
+use Rattle.labtop.specs.declared.capture.TheConstants.{MOST_FRAMES, MOST_BYTES, MOST_BUILT, IDLE}
+use Rattle.labtop.specs.Scapconf.{Packet, packets_from}
 
--- what a capture's bytes ask for: the delivery of a packet, a refusal, or what isn't built yet
+-- what a capture's bytes ask for: the delivery of its packets, a refusal, or what isn't built yet
 pub data Verdict : Type 0 where
-  Delivers : Packet → Verdict
+  Delivers : List Packet → Verdict
   Refused : HeadFault → Verdict
   NotBuilt : Verdict
 
@@ -28,33 +27,39 @@ is_ethernet Cooked2 = false
 abbrev pub is_built : FileHead → Bool
 is_built head = not head.big && not head.nanos && is_ethernet head.link
 
--- the only record of a whole capture
-abbrev pub only_in : List Frame → End → Option Frame
-only_in [] end = None
-only_in (frame ∷ other ∷ frames) end = None
-only_in (frame ∷ []) (Cut n) = None
-only_in (frame ∷ []) (TooBig at len) = None
-only_in (frame ∷ []) TooLong = None
-only_in (frame ∷ []) Whole = Some frame
+-- the records of a capture whose end is whole
+abbrev pub whole_in : List Frame → End → Option (List Frame)
+whole_in frames Whole = Some frames
+whole_in frames (Cut n) = None
+whole_in frames (TooBig at len) = None
+whole_in frames TooLong = None
 
-unfoldable pub only_of : Records → Option Frame
-only_of records = only_in records.frames records.end
+unfoldable pub whole_of : Records → Option (List Frame)
+whole_of records = whole_in records.frames records.end
 
--- the packet of the first record, whose clock is its own moment
-abbrev pub first_packet : Frame → Option Packet
-first_packet frame = accepted_at 1 frame.moment (kind_of frame.bytes)
+-- the clock of the last packet
+abbrev pub last_clock : ℕ → List Packet → ℕ
+last_clock clock [] = clock
+last_clock clock (p ∷ packets) = last_clock p.clock packets
 
-abbrev pub of_packet : Option Packet → Verdict
-of_packet None = NotBuilt
-of_packet (Some packet) = Delivers packet
+-- whether a conversation could end before the capture does: the last clock is past the first one by the idle time
+abbrev pub is_long : List Packet → Bool
+is_long [] = false
+is_long (p ∷ packets) = nat_le (p.clock + IDLE) (last_clock p.clock packets)
 
-abbrev pub of_frame : Option Frame → Verdict
-of_frame frame = of_packet (option_and_then first_packet frame)
+-- of the packets of all records, where each record is accepted
+abbrev pub of_packets : Option (List Packet) → Verdict
+of_packets None = NotBuilt
+of_packets (Some packets) = if is_long packets then NotBuilt else Delivers packets
+
+abbrev pub of_frames : Option (List Frame) → Verdict
+of_frames None = NotBuilt
+of_frames (Some frames) = of_packets (packets_from 1 0 frames)
 
 abbrev pub of_capture : ℕ → Result (FileHead × Records) HeadFault → Verdict
 of_capture size (Err fault) = Refused fault
 of_capture size (Ok capture) =
-    if not (is_built capture.0) || nat_lt MOST_BUILT size then NotBuilt else of_frame (only_of capture.1)
+    if not (is_built capture.0) || nat_lt MOST_BUILT size then NotBuilt else of_frames (whole_of capture.1)
 
 unfoldable pub verdict_of : List ℕ → Verdict
 verdict_of file = of_capture (length file) (capture_of limits file)

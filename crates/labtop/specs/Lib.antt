@@ -4,6 +4,9 @@ pub mod Scapconf
 pub mod Handler
 pub mod Tally
 pub mod Convo
+pub mod Report
+pub mod Standing
+pub mod Laws
 pub mod Drill
 pub mod Names
 pub mod Words

@@ -1,4 +1,4 @@
-use Rattle.std.specs.Prelude.{ℕ, ◌+◌, List, [], ◌∷◌, ◌++◌, codes, map, sum, length}
+use Rattle.std.specs.Prelude.{ℕ, ◌≡◌, ◌+◌, List, [], ◌∷◌, ◌++◌, codes}
 use Rattle.std.specs.Fmt.{decimal}
 use Rattle.labtop.specs.declared.way.Way.{Way}
 use Rattle.labtop.specs.declared.sums.Sums.{Sums}
@@ -7,10 +7,13 @@ use Rattle.labtop.specs.Handler.{way_mark, spaced}
 
 -- the lines of a report
 
--- the sums of a direction whose payloads are all delivered
-abbrev pub delivered_sums : List (List ℕ) → Sums
-delivered_sums payloads =
-    record { payload = sum (map length payloads); delivered = sum (map length payloads); duplicate = 0; late = 0; cut = 0; shed = 0; gaps = 0; gap_bytes = 0 }
+-- so many bytes, and so many of them delivered: none is duplicate, late, cut off or shed, and there is no gap
+abbrev pub counted : (payload delivered : ℕ) → Sums
+counted payload delivered = record { payload = payload; delivered = delivered; duplicate = 0; late = 0; cut = 0; shed = 0; gaps = 0; gap_bytes = 0 }
+
+-- each byte is counted exactly once
+abbrev pub IsAccounted : Sums → Type 0
+IsAccounted s = s.payload ≡ s.delivered + s.duplicate + s.late + s.cut + s.shed
 
 -- the numbers of a direction's line, in its order
 abbrev pub numbers_of : Sums → List ℕ

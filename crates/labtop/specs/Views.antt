@@ -1,4 +1,3 @@
-use Rattle.streamkey.specs.declared.key.Key.{Key}
 use Rattle.labtop.specs.declared.network.Net.{Net}
 use Rattle.labtop.specs.declared.network.Net.TheVariants as net
 use Rattle.labtop.specs.declared.transport.Seen.{Seen}

@@ -1,7 +1,9 @@
 // What a capture's bytes ask for.
-ghost use Rattle.std.specs.Prelude.{◌≡◌, ℕ, suc, IfOk, Result};
+ghost use Rattle.std.specs.Prelude.{◌≡◌, ◌≤◌, ℕ, suc, List, length, drop, vec_len, Ok, IfOk, IfSome, option_map};
+ghost use Rattle.std.specs.List.{sum_by};
 ghost use Rattle.pcapfile.specs.Capture.{records_from};
-ghost use Rattle.labtop.specs.Drill.{limits, is_built, only_of};
+ghost use Rattle.pcapfile.specs.Head.{head_of};
+ghost use Rattle.labtop.specs.Drill.{limits, is_built, whole_of};
 
 use crate::Memory;
 use pcapfile::{FileHead, Frame, Frames, Link, Next, Tail};
@@ -16,26 +18,33 @@ pub(crate) const MOST_BYTES: u64 = 4_294_967_296;
 /// The most bytes of a capture that is taken yet.
 pub(crate) const MOST_BUILT: usize = 16_777_216;
 
-/// The only record of a whole capture, by the bytes behind its head.
-pub(crate) fn only_frame(
+/// The idle time of a conversation, in nanoseconds: 300 seconds.
+pub(crate) const IDLE: u64 = 300_000_000_000;
+
+/// The records of a capture whose end is whole, by the bytes behind its head.
+#[tactic(auto, using(crate::proofs::FramesLemmas::passed_rest, std::proofs::lemmas::List::Sums::sum_by_push))]
+pub(crate) fn whole_frames(
     alloc: Global,
     head: FileHead,
     rest: &[u8],
-) -> Result<Option<Frame>, Memory>
-    ensures { (turns : ℕ) → IfOk result (λ o. o ≡ only_of (records_from (suc (suc turns)) head limits 24 0 rest.now)) }
+) -> Result<Option<Vec<Frame>>, Memory>
+    ensures frames { (file : List ℕ) → head_of file ≡ Ok head → rest.now ≡ drop 24 file
+        → IfOk result (λ found. option_map (λ v. v.items) found ≡ whole_of (records_from (suc (suc (length file))) head limits 24 0 rest.now)) }
+    ensures fits { IfOk result (λ found. IfSome found (λ v. sum_by (λ f. length f.bytes) v.items ≤ length rest.now)) }
+    ensures few { IfOk result (λ found. IfSome found (λ v. vec_len v ≤ length rest.now)) }
 {
     let mut frames = Frames::new(alloc, head, MOST_FRAMES, MOST_BYTES);
     frames.feed(rest)?;
-    let one = frames.next()?;
-    let Next::Whole(first) = one else {
-        return Ok(None);
-    };
-    let two = frames.next()?;
-    let Next::More = two else {
-        return Ok(None);
-    };
+    let mut found = Vec::new(alloc);
+    'records: loop {
+        match frames.next()? {
+            Next::Whole(frame) => found.push(frame)?,
+            Next::More => break,
+            Next::Fault(_) => return Ok(None),
+        }
+    }
     match frames.finish() {
-        Tail::Whole => Ok(Some(first)),
+        Tail::Whole => Ok(Some(found)),
         Tail::Cut { .. } => Ok(None),
     }
 }

@@ -42,7 +42,7 @@ fn write_both<S: Shelf>(
     Ok(())
 }
 
-/// Replays a capture of one record.
+/// Replays a capture, and writes its files.
 pub(crate) fn drill<S: Shelf>(alloc: Global, capture: &str, out: &str, shelf: &mut S) -> Status
     ensures verdict { IfSome (told_file (S.files shelf.old) capture.now) (λ bytes. Allows (verdict_of bytes) result) }
     ensures unread { IfSome (S.files shelf.old) (λ files. IfNone (file_of files capture.now) (AllowsUnread result)) }

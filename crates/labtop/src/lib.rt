@@ -4,21 +4,26 @@
 #![tactic(auto)]
 
 mod capture;
+mod conversation;
+mod conversations;
 mod counts;
+mod deliver;
 mod drill;
 mod files;
+pub mod laws;
 mod lines;
 mod memory;
 mod names;
 mod network;
 mod outcome;
 mod packet;
+mod packets;
 mod put;
 mod report;
 pub mod rows;
 mod status;
+mod summary;
 mod sums;
-mod texts;
 mod top;
 mod transport;
 mod way;

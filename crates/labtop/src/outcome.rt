@@ -1,11 +1,14 @@
 // The files of a capture.
+ghost use Rattle.std.specs.Prelude.{◌<◌, ◌^◌, length, sum_by};
+ghost use Rattle.labtop.specs.Drill.{of_packets, verdict_of};
 ghost use Rattle.labtop.specs.Gives.{Gives};
-ghost use Rattle.labtop.specs.Drill.{of_packet, first_packet, verdict_of};
+ghost use Rattle.labtop.specs.Scapconf.{packets_from};
 
 use crate::Status;
-use crate::capture::{MOST_BUILT, is_known, only_frame};
-use crate::packet::packet_in;
-use crate::texts::{delivery, report};
+use crate::capture::{MOST_BUILT, is_known, whole_frames};
+use crate::deliver::delivery;
+use crate::packets::{lasts_long, packets_in};
+use crate::summary::report;
 use pcapfile::{FileHead, Frame};
 use std::alloc::Global;
 
@@ -16,15 +19,25 @@ pub(crate) struct Outcome {
     pub report: Vec<u8>,
 }
 
-fn outcome_of(alloc: Global, frame: &Frame) -> Result<Outcome, Status>
-    ensures { Gives result (of_packet (first_packet frame.now)) }
+/// The files of a capture's records.
+fn outcome_of(alloc: Global, frames: &[Frame]) -> Result<Outcome, Status>
+    requires few { length frames.now < 2 ^ 32 }
+    requires fits { sum_by (λ f. length f.bytes) frames.now < 2 ^ 64 }
+    ensures { Gives result (of_packets (packets_from 1 0 frames.now)) }
 {
-    let Some(packet) = packet_in(1, frame.moment, frame) else {
+    let found = packets_in(alloc, frames)?;
+    let Some(packets) = found else {
         return Err(Status::Unbuilt);
     };
-    let delivery = delivery(alloc, &packet)?;
-    let report = report(alloc, &packet)?;
-    Ok(Outcome { delivery, report })
+    if lasts_long(&packets) {
+        return Err(Status::Unbuilt);
+    }
+    let delivered = delivery(alloc, &packets)?;
+    let report = report(alloc, &packets, delivered.conversations.as_slice())?;
+    Ok(Outcome {
+        delivery: delivered.text,
+        report,
+    })
 }
 
 /// The files of a capture.
@@ -42,8 +55,9 @@ pub(crate) fn outcome_for(alloc: Global, bytes: &[u8]) -> Result<Outcome, Status
     if bytes.len() > MOST_BUILT {
         return Err(Status::Unbuilt);
     }
-    let Some(frame) = only_frame(alloc, head, &bytes[24..])? else {
+    let found = whole_frames(alloc, head, &bytes[24..])?;
+    let Some(frames) = found else {
         return Err(Status::Unbuilt);
     };
-    outcome_of(alloc, &frame)
+    outcome_of(alloc, &frames)
 }

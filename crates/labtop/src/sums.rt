@@ -1,5 +1,3 @@
-ghost use Rattle.std.specs.Prelude.{◌≡◌};
-
 /// What became of a direction's bytes: their number, by what became of them, and the gaps between those delivered.
 #[derive(Clone, Copy, Debug, PartialEq, Eq)]
 pub(crate) struct Sums {
@@ -15,10 +13,11 @@ pub(crate) struct Sums {
 
 impl Sums {
     ghost use Rattle.std.specs.Prelude.{◌≡◌};
+    ghost use Rattle.labtop.specs.Tally.{counted};
 
     /// So many bytes, all delivered, without a gap.
     pub(crate) fn delivered(bytes: u64) -> Sums
-        ensures { result ≡ record { payload = bytes; delivered = bytes; duplicate = 0; late = 0; cut = 0; shed = 0; gaps = 0; gap_bytes = 0 } }
+        ensures { result ≡ counted bytes bytes }
     {
         Sums {
             payload: bytes,

@@ -1,4 +1,4 @@
-ghost use Rattle.std.specs.Prelude.{◌<◌};
+ghost use Rattle.std.specs.Prelude.{◌<◌, length};
 
 use crate::{Memory, Status, lab_top};
 use pcapfile::HeadFault;
@@ -41,6 +41,43 @@ fn changed(alloc: Global, changes: &[(usize, u8)]) -> Result<Vec<u8>, AllocError
     Ok(bytes)
 }
 
+/// Appends the record of a datagram: its second, the last byte of the address and the port of its source and its target.
+fn put_record(
+    capture: &mut Vec<u8>,
+    second: u8,
+    source: (u8, u8),
+    target: (u8, u8),
+    payload: &[u8],
+) -> Result<(), AllocError>
+    requires { length payload.now < 100 }
+{
+    let n = payload.len() as u8;
+    let record = [
+        second,
+        0,
+        0,
+        0,
+        0,
+        0,
+        0,
+        0,
+        42 + n,
+        0,
+        0,
+        0,
+        42 + n,
+        0,
+        0,
+        0,
+    ];
+    capture.extend_from_slice(&record)?;
+    capture.extend_from_slice(&ONE[40..54])?;
+    capture.extend_from_slice(&[0x45, 0, 0, 28 + n, 0, 0, 0, 0, 0x40, 0x11, 0, 0])?;
+    capture.extend_from_slice(&[10, 0, 0, source.0, 10, 0, 0, target.0])?;
+    capture.extend_from_slice(&[0, source.1, 0, target.1, 0, 8 + n, 0, 0])?;
+    capture.extend_from_slice(payload)
+}
+
 fn has_file(shelf: &MemShelf, name: &str, bytes: &[u8]) -> bool {
     match shelf.file(name) {
         Some(found) => found == bytes,
@@ -78,6 +115,81 @@ fn one_datagram_is_delivered_however_it_is_read(rt: HostRuntime) -> Result<(), F
     expect_delivery(&rt, alloc, 1)?;
     expect_delivery(&rt, alloc, 7)?;
     expect_delivery(&rt, alloc, 65_536)?;
+    Ok(())
+}
+
+#[test]
+fn an_empty_capture_gives_an_empty_delivery_file(rt: HostRuntime) -> Result<(), Fail> {
+    let alloc = rt.alloc();
+    let mut shelf = shelf_with(alloc, &ONE[..24])?;
+    let done = lab_top(alloc, &WORDS, &mut shelf);
+    assert_eq!(rt; done.status, Status::Done);
+    let report =
+        "scap report 1\ncores 1 workers 1\nrecords 0 accepted 0 filtered 0 other 0 fragment 0 short 0\nbytes payload 0 delivered 0 duplicate 0 late 0 cut 0 shed 0\nstatus 0\n";
+    expect_files(&rt, &shelf, Some(""), Some(report));
+    Ok(())
+}
+
+#[test]
+fn conversations_are_told_apart_by_their_ends(rt: HostRuntime) -> Result<(), Fail> {
+    let alloc = rt.alloc();
+    let mut capture = Vec::from_slice(alloc, &ONE[..24])?;
+    put_record(&mut capture, 1, (2, 50), (3, 53), b"ab")?;
+    put_record(&mut capture, 1, (3, 53), (2, 50), b"xyz")?;
+    put_record(&mut capture, 1, (2, 50), (3, 53), b"")?;
+    // Its key comes before that of the first conversation.
+    put_record(&mut capture, 2, (2, 50), (1, 7), b"q")?;
+    put_record(&mut capture, 2, (2, 50), (3, 53), b"c")?;
+    put_record(&mut capture, 2, (3, 53), (2, 50), b"w")?;
+    // The same addresses with another port, and no payload.
+    put_record(&mut capture, 3, (3, 54), (2, 50), b"")?;
+    // Both ends are the same.
+    put_record(&mut capture, 3, (9, 9), (9, 9), b"e")?;
+    put_record(&mut capture, 3, (9, 9), (9, 9), b"f")?;
+    let mut shelf = shelf_with(alloc, &capture)?;
+    let done = lab_top(alloc, &WORDS, &mut shelf);
+    assert_eq!(rt; done.status, Status::Done);
+    let delivery =
+        "new 1 udp 10.0.0.2 50 10.0.0.3 53\ndata 1 > 0 0 0 0 6162\ndata 1 < 0 0 0 0 78797a\nnew 4 udp 10.0.0.2 50 10.0.0.1 7\ndata 4 > 0 0 0 0 71\ndata 1 > 2 0 0 0 63\ndata 1 < 3 0 0 0 77\nnew 7 udp 10.0.0.3 54 10.0.0.2 50\nnew 8 udp 10.0.0.9 9 10.0.0.9 9\ndata 8 > 0 0 0 0 65\ndata 8 > 1 0 0 0 66\nend 1 finish\nend 4 finish\nend 7 finish\nend 8 finish\n";
+    let report =
+        "scap report 1\ncores 1 workers 1\ndir 1 > 3 3 0 0 0 0 0 0\ndir 1 < 4 4 0 0 0 0 0 0\ndir 4 > 1 1 0 0 0 0 0 0\ndir 4 < 0 0 0 0 0 0 0 0\ndir 7 > 0 0 0 0 0 0 0 0\ndir 7 < 0 0 0 0 0 0 0 0\ndir 8 > 2 2 0 0 0 0 0 0\ndir 8 < 0 0 0 0 0 0 0 0\nrecords 9 accepted 9 filtered 0 other 0 fragment 0 short 0\nbytes payload 10 delivered 10 duplicate 0 late 0 cut 0 shed 0\nstatus 0\n";
+    expect_files(&rt, &shelf, Some(delivery), Some(report));
+    Ok(())
+}
+
+#[test]
+fn a_conversation_that_could_end_before_the_capture_is_not_built(
+    rt: HostRuntime,
+) -> Result<(), Fail> {
+    let alloc = rt.alloc();
+    // 300 seconds after the first record, and a microsecond less; the clock doesn't go back.
+    let cases: [([u8; 8], Status); 2] = [
+        ([0x2d, 1, 0, 0, 0, 0, 0, 0], Status::Unbuilt),
+        ([0x2c, 1, 0, 0, 0x3f, 0x42, 0x0f, 0], Status::Done),
+    ];
+    for (moment, status) in cases {
+        let mut capture = Vec::from_slice(alloc, &ONE[..24])?;
+        put_record(&mut capture, 1, (2, 50), (3, 53), b"ab")?;
+        capture.extend_from_slice(&moment)?;
+        capture.extend_from_slice(&ONE[32..])?;
+        put_record(&mut capture, 2, (2, 50), (3, 53), b"cd")?;
+        let mut shelf = shelf_with(alloc, &capture)?;
+        let done = lab_top(alloc, &WORDS, &mut shelf);
+        assert_eq!(rt; done.status, status);
+    }
+    Ok(())
+}
+
+#[test]
+fn one_record_that_is_not_built_is_enough(rt: HostRuntime) -> Result<(), Fail> {
+    let alloc = rt.alloc();
+    let tcp = changed(alloc, &[(63, 6)])?;
+    let mut capture = Vec::from_slice(alloc, &tcp)?;
+    capture.extend_from_slice(&ONE[24..])?;
+    let mut shelf = shelf_with(alloc, &capture)?;
+    let done = lab_top(alloc, &WORDS, &mut shelf);
+    assert_eq!(rt; done.status, Status::Unbuilt);
+    expect_files(&rt, &shelf, None, None);
     Ok(())
 }
 
@@ -160,16 +272,14 @@ fn what_is_not_built_creates_no_file(rt: HostRuntime) -> Result<(), Fail> {
 }
 
 #[test]
-fn other_numbers_of_records_and_other_heads_are_not_built(rt: HostRuntime) -> Result<(), Fail> {
+fn other_heads_are_not_built(rt: HostRuntime) -> Result<(), Fail> {
     let alloc = rt.alloc();
-    let mut two = Vec::from_slice(alloc, &ONE)?;
-    two.extend_from_slice(&ONE[24..])?;
     let big = [
         0xa1, 0xb2, 0xc3, 0xd4, 0, 2, 0, 4, 0, 0, 0, 0, 0, 0, 0, 0, 0, 4, 0, 0, 0, 0, 0, 1,
     ];
     let nanoseconds = changed(alloc, &[(0, 0x4d), (1, 0x3c)])?;
     let raw = changed(alloc, &[(20, 101)])?;
-    let cases: [&[u8]; 5] = [&ONE[..24], &two, &big, &nanoseconds, &raw];
+    let cases: [&[u8]; 3] = [&big, &nanoseconds, &raw];
     for (i, capture) in cases.iter().enumerate() {
         let mut shelf = shelf_with(alloc, capture)?;
         let done = lab_top(alloc, &WORDS, &mut shelf);
@@ -239,65 +349,57 @@ fn words_are_taken_as_they_are_said(rt: HostRuntime) -> Result<(), Fail> {
     Ok(())
 }
 
+/// A run over files that are read and written 16 bytes at a time, where the nth such call on that name fails.
+fn run_with_fault(
+    alloc: Global,
+    name: &str,
+    call: FailCall,
+    nth: u32,
+) -> Result<(Status, MemShelf), scap_world::Memory> {
+    let mut shelf = shelf_with(alloc, &ONE)?;
+    shelf.set_piece(16);
+    shelf.fail(name, call, nth)?;
+    let done = lab_top(alloc, &WORDS, &mut shelf);
+    Ok((done.status, shelf))
+}
+
 #[test]
-fn a_fault_is_answered_and_leaves_a_front(rt: HostRuntime) -> Result<(), Fail> {
+fn a_fault_of_opening_or_reading_creates_no_file(rt: HostRuntime) -> Result<(), Fail> {
     let alloc = rt.alloc();
-    let front = Some("new 1 udp 10.0.0");
-    let cases = [
-        ("cap", FailCall::Open, 1, Status::ReadFault, None, None),
-        ("cap", FailCall::Read, 1, Status::ReadFault, None, None),
-        ("cap", FailCall::Read, 2, Status::ReadFault, None, None),
-        ("cap", FailCall::Read, 7, Status::ReadFault, None, None),
-        ("out.0", FailCall::Create, 1, Status::WriteFault, None, None),
-        (
-            "out.0",
-            FailCall::Write,
-            1,
-            Status::WriteFault,
-            Some(""),
-            None,
-        ),
-        ("out.0", FailCall::Write, 2, Status::WriteFault, front, None),
-        (
-            "out.report",
-            FailCall::Create,
-            1,
-            Status::WriteFault,
-            Some(DELIVERY),
-            None,
-        ),
-        (
-            "out.report",
-            FailCall::Write,
-            1,
-            Status::WriteFault,
-            Some(DELIVERY),
-            Some(""),
-        ),
-        (
-            "out.report",
-            FailCall::Write,
-            2,
-            Status::WriteFault,
-            Some(DELIVERY),
-            Some("scap report 1\nco"),
-        ),
-        (
-            "out.0",
-            FailCall::Open,
-            1,
-            Status::Done,
-            Some(DELIVERY),
-            Some(REPORT),
-        ),
-    ];
-    for (name, call, nth, status, delivery, report) in cases {
-        let mut shelf = shelf_with(alloc, &ONE)?;
-        shelf.set_piece(16);
-        shelf.fail(name, call, nth)?;
-        let done = lab_top(alloc, &WORDS, &mut shelf);
-        assert_eq!(rt; done.status, status, "{name} {call:?} {nth}");
-        expect_files(&rt, &shelf, delivery, report);
+    let (status, shelf) = run_with_fault(alloc, "cap", FailCall::Open, 1)?;
+    assert_eq!(rt; status, Status::ReadFault);
+    expect_files(&rt, &shelf, None, None);
+    // Six reads take the capture's 84 bytes, and a seventh tells that there are no more.
+    for nth in 1..8 {
+        let (status, shelf) = run_with_fault(alloc, "cap", FailCall::Read, nth)?;
+        assert_eq!(rt; status, Status::ReadFault, "read {nth}");
+        expect_files(&rt, &shelf, None, None);
+    }
+    let (status, shelf) = run_with_fault(alloc, "cap", FailCall::Read, 8)?;
+    assert_eq!(rt; status, Status::Done);
+    expect_files(&rt, &shelf, Some(DELIVERY), Some(REPORT));
+    Ok(())
+}
+
+#[test]
+fn a_fault_of_creating_or_writing_leaves_a_front(rt: HostRuntime) -> Result<(), Fail> {
+    let alloc = rt.alloc();
+    let (status, shelf) = run_with_fault(alloc, "out.0", FailCall::Create, 1)?;
+    assert_eq!(rt; status, Status::WriteFault);
+    expect_files(&rt, &shelf, None, None);
+    let (status, shelf) = run_with_fault(alloc, "out.report", FailCall::Create, 1)?;
+    assert_eq!(rt; status, Status::WriteFault);
+    expect_files(&rt, &shelf, Some(DELIVERY), None);
+    // The delivery file has 71 bytes, the report 208.
+    for (nth, written) in [(1, 0), (2, 16), (3, 32), (4, 48), (5, 64)] {
+        let (status, shelf) = run_with_fault(alloc, "out.0", FailCall::Write, nth)?;
+        assert_eq!(rt; status, Status::WriteFault, "write {nth}");
+        expect_files(&rt, &shelf, DELIVERY.get(..written), None);
+    }
+    for (nth, written) in [(1, 0), (2, 16), (7, 96), (12, 176), (13, 192)] {
+        let (status, shelf) = run_with_fault(alloc, "out.report", FailCall::Write, nth)?;
+        assert_eq!(rt; status, Status::WriteFault, "write {nth}");
+        expect_files(&rt, &shelf, Some(DELIVERY), REPORT.get(..written));
     }
     Ok(())
 }

@@ -28,6 +28,11 @@ IsOpen (Ends (TooBig at len)) = ⊥
 IsOpen (Ends TooLong) = ⊥
 IsOpen (Holds frame) = ⊥
 
+-- a whole record stands there
+abbrev pub IsRecord : Place → Type 0
+IsRecord (Ends end) = ⊥
+IsRecord (Holds frame) = Unit {0}
+
 -- the end that a fault, or a tail, says
 abbrev pub end_of_fault : FrameFault → End
 end_of_fault (fault.TooBig at len) = TooBig at len

@@ -1,4 +1,4 @@
-ghost use Rattle.std.specs.Prelude.{◌≡◌, ◌+◌, ◌≤◌, ◌<◌, ◌++◌, ◌^◌, [], IfOk, OnOk, OnErr, length, drop, vec_len};
+ghost use Rattle.std.specs.Prelude.{◌≡◌, ◌≢◌, ◌+◌, ◌*◌, ◌≤◌, ◌<◌, ◌++◌, ◌^◌, [], IfOk, OnOk, OnErr, length, drop, vec_len};
 
 use crate::found::{Found, HEADER_SIZE, found_at};
 use crate::head::HEAD_SIZE;
@@ -34,23 +34,32 @@ impl Model for Frames {
       rest = drop f.place f.stream.items;
     } };
 
-    // The bytes before `place` were read. The offset stays below 2 ^ 64, since each record has at most 262,160 bytes.
-    ghost invariant = { λ f. (f.place ≤ vec_len f.stream) × (f.count ≤ f.most_frames) × (f.at ≤ 24 + 262160 * f.count) };
+    // The bytes before `place` were read, and no more of them are kept than of those that were not. The offset stays
+    // below 2 ^ 64, since each record has at most 262,160 bytes.
+    ghost invariant = { λ f. (2 * f.place ≤ vec_len f.stream) × (f.count ≤ f.most_frames) × (f.at ≤ 24 + 262160 * f.count) };
 }
 
-/// Takes so many bytes from the front.
-fn cut_front(bytes: &mut Vec<u8>, n: usize)
-    requires { n ≤ vec_len bytes.old }
-    ensures { bytes.new.items ≡ drop n bytes.old.items }
+/// Lets go of the bytes before a place once they are more than the others, and answers the place of the others. No
+/// more bytes are moved than are let go.
+fn let_go(bytes: &mut Vec<u8>, place: usize) -> usize
+    requires { place ≤ vec_len bytes.old }
+    ensures others { drop result bytes.new.items ≡ drop place bytes.old.items }
+    ensures few { 2 * result ≤ vec_len bytes.new }
+    ensures moved { result ≢ place → vec_len bytes.new ≤ place }
 {
-    bytes.drain(..n);
+    if place > bytes.len() / 2 {
+        bytes.drain(..place);
+        0
+    } else {
+        place
+    }
 }
 
 impl Frames {
-    ghost use Rattle.std.specs.Prelude.{◌≡◌, ◌++◌, [], IfOk, OnOk, OnErr};
+    ghost use Rattle.std.specs.Prelude.{◌≡◌, ◌<◌, ◌++◌, [], IfOk, OnOk, OnErr, length};
     ghost use Rattle.pcapfile.specs.State.{State};
     ghost use Rattle.pcapfile.specs.Capture.{Ends};
-    ghost use Rattle.pcapfile.specs.Reading.{place_at, Answers, IsOpen, end_of_tail};
+    ghost use Rattle.pcapfile.specs.Reading.{place_at, Answers, IsOpen, IsRecord, end_of_tail};
     ghost use Rattle.pcapfile.specs.Laws.{opened, Feeds, Reads};
 
     /// Nothing has come yet. At most `most_frames` records and `most_bytes` bytes of the file are read.
@@ -69,33 +78,24 @@ impl Frames {
         }
     }
 
-    /// Lets go of the bytes that were read, once they are more than the others.
-    fn let_go(&mut self)
-        ensures { self.new ≡ self.old }
-    {
-        if self.place > self.stream.len() / 2 {
-            cut_front(&mut self.stream, self.place);
-            self.place = 0;
-        }
-    }
-
-    /// Appends to the stream, whose first byte is the one at offset 24 of the file. What was read is let go on
-    /// the way, and no more bytes are moved for it than were read.
+    /// Appends to the stream, whose first byte is the one at offset 24 of the file. No memory is wanted where nothing is
+    /// appended.
     pub fn feed(&mut self, piece: &[u8]) -> Result<(), Memory>
         ensures ok { OnOk result (self.new ≡ record self.old { rest = self.old.rest ++ piece.now }) }
         ensures err { OnErr result (self.new ≡ self.old) }
+        ensures memory { OnErr result (0 < length piece.now) }
         ensures run { OnOk result (Feeds self.old piece.now self.new) }
     {
-        self.let_go();
         self.stream.extend_from_slice(piece)?;
         Ok(())
     }
 
     /// The next record of the stream so far; `More` where no record is whole and no fault stands. A record and a fault
-    /// are the same whatever is fed later.
+    /// are the same whatever is fed later. Memory is wanted only where a whole record stands.
     pub fn next(&mut self) -> Result<Next, Memory>
         ensures ok { IfOk result (λ next. Answers self.old next self.new) }
         ensures err { OnErr result (self.new ≡ self.old) }
+        ensures memory { OnErr result (IsRecord (place_at self.old)) }
         ensures run { IfOk result (λ next. Reads self.old next self.new) }
     {
         let next = self.read()?;
@@ -107,6 +107,7 @@ impl Frames {
     fn read(&mut self) -> Result<Next, Memory>
         ensures ok { IfOk result (λ next. Answers self.old next self.new) }
         ensures err { OnErr result (self.new ≡ self.old) }
+        ensures memory { OnErr result (IsRecord (place_at self.old)) }
     {
         let rest = &self.stream[self.place..];
         let at = self.at;
@@ -123,7 +124,7 @@ impl Frames {
             Found::Record { moment, len } => {
                 let bytes = Vec::from_slice(self.alloc, &rest[HEADER_SIZE..HEADER_SIZE + len])?;
                 self.at += (HEADER_SIZE + len) as u64;
-                self.place += HEADER_SIZE + len;
+                self.place = let_go(&mut self.stream, self.place + HEADER_SIZE + len);
                 self.count += 1;
                 Ok(Next::Whole(Frame {
                     at,

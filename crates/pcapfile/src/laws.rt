@@ -1,11 +1,13 @@
 //! What the definition of a capture means, each law as the contract of a function with an empty body.
-ghost use Rattle.std.specs.Prelude.{ℕ, List};
+ghost use Rattle.std.specs.Prelude.{◌≡◌, ℕ, List, true};
 ghost use Rattle.pcapfile.specs.declared.frame.Frame.{Frame};
 ghost use Rattle.pcapfile.specs.declared.frame_fault.FrameFault.{FrameFault};
 ghost use Rattle.pcapfile.specs.declared.head.FileHead.{FileHead};
 ghost use Rattle.pcapfile.specs.Capture.{Limits};
 ghost use Rattle.pcapfile.specs.State.{State};
 ghost use Rattle.pcapfile.specs.Laws.{RecordsStand, CaptureAccounts, TurnsServe, FaultStays, RecordStays, HoweverFed};
+
+use crate::{FileHead, FrameFault, HeadFault, Tail};
 
 /// Each record of a capture stands at the offset 24 plus the sizes of all earlier ones, a size being 16 bytes and the
 /// captured length, and its moment and its bytes are those that the file has there.
@@ -39,4 +41,24 @@ pub fn a_record_stays()
 /// up to the end are those of the capture, and the end is its end.
 pub fn records_are_those_however_fed()
     ensures { (limits : Limits) (file : List ℕ) → HoweverFed limits file }
+{}
+
+/// Heads compare as equal where they are the same.
+pub fn heads_compare(a: FileHead, b: FileHead)
+    ensures { ⟦<FileHead as PartialEq>⟧.eq a b ≡ true → a ≡ b }
+{}
+
+/// Faults of a file header compare as equal where they are the same.
+pub fn head_faults_compare(a: HeadFault, b: HeadFault)
+    ensures { ⟦<HeadFault as PartialEq>⟧.eq a b ≡ true → a ≡ b }
+{}
+
+/// Faults of a record compare as equal where they are the same.
+pub fn frame_faults_compare(a: FrameFault, b: FrameFault)
+    ensures { ⟦<FrameFault as PartialEq>⟧.eq a b ≡ true → a ≡ b }
+{}
+
+/// Tails compare as equal where they are the same.
+pub fn tails_compare(a: Tail, b: Tail)
+    ensures { ⟦<Tail as PartialEq>⟧.eq a b ≡ true → a ≡ b }
 {}

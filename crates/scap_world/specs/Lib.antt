@@ -1,6 +1,9 @@
 pub mod Causes
 pub mod Contents
 pub mod Files
+pub mod FileShelf
+pub mod FileSink
+pub mod FileSource
 pub mod MemShelf
 pub mod MemSink
 pub mod MemSource

@@ -191,6 +191,36 @@ fn reads_of_an_earlier_open_do_not_count(rt: HostRuntime) -> Result<(), Fail> {
 }
 
 #[test]
+fn several_may_be_out_at_once(rt: HostRuntime) -> Result<(), Fail> {
+    let mut shelf = MemShelf::new(rt.alloc());
+    shelf.add("in", b"abc")?;
+    let mut first = shelf.open_read("in")?;
+    let mut second = shelf.open_read("in")?;
+    let mut out = shelf.create("out")?;
+    let other = shelf.create("other")?;
+    assert_eq!(rt; first.read(&mut [0; 2]), Ok(2));
+    assert_eq!(rt; second.read(&mut [0; 4]), Ok(3));
+    assert_eq!(rt; first.read(&mut [0; 4]), Ok(1));
+    assert_eq!(rt; out.write(b"xyz"), Ok(3));
+    shelf.end_read("in", first);
+    shelf.end_read("in", second);
+    assert_eq!(rt; shelf.finish("other", other), Ok(()));
+    assert_eq!(rt; shelf.finish("out", out), Ok(()));
+    assert!(rt; holds(&shelf, "out", b"xyz"));
+    assert!(rt; holds(&shelf, "other", b""));
+    Ok(())
+}
+
+#[test]
+fn a_device_that_is_full_is_a_fault(rt: HostRuntime) {
+    let mut shelf = FileShelf::new(rt);
+    assert_eq!(rt;
+        write_once(&mut shelf, "/dev/full", b"hello"),
+        Err(WorldFault::Failed)
+    );
+}
+
+#[test]
 fn real_files_and_folders(rt: HostRuntime) {
     let mut shelf = FileShelf::new(rt);
     let mut into = [0; 16];

@@ -1,3 +1,4 @@
+pub mod Address
 pub mod Order
 pub mod KeyParts
 pub mod Key

@@ -1,12 +1,18 @@
 //! What the definitions of an order and of a key mean, each as the contract of a function with an empty body.
-ghost use Rattle.std.specs.Prelude.{◌≡◌, ◌≢◌};
+ghost use Rattle.std.specs.Prelude.{◌≡◌, ◌≢◌, true};
 ghost use Rattle.std.specs.Ordering.{ordering_reverse};
 ghost use Rattle.streamkey.specs.Order.{addr_order, end_order, key_order, proto_order};
+ghost use Rattle.streamkey.specs.Address.{HasItsBytes};
 ghost use Rattle.streamkey.specs.Key.{key_of, opposite, source_of, target_of};
 ghost use Rattle.streamkey.specs.declared.toward.Toward.TheVariants.{Up};
 ghost use Rattle.std.specs.declared.cmp.Ordering.TheVariants.{Equal};
 
 use crate::{Addr, End, Key, Proto, Toward};
+
+/// An address of version 4 has 4 bytes, one of version 6 has 16.
+pub fn addresses_have_their_bytes(a: Addr)
+    ensures { HasItsBytes a }
+{}
 
 /// Addresses compare by the order that is stated for them.
 pub fn addr_compares(a: Addr, b: Addr)
@@ -26,6 +32,11 @@ pub fn end_compares(a: End, b: End)
 /// Keys compare by the order that is stated for them.
 pub fn key_compares(a: Key, b: Key)
     ensures { ⟦<Key as Ord>⟧.cmp a b ≡ key_order a b }
+{}
+
+/// Ways compare as equal where they are the same.
+pub fn ways_compare(a: Toward, b: Toward)
+    ensures { ⟦<Toward as PartialEq>⟧.eq a b ≡ true → a ≡ b }
 {}
 
 /// Two ends stand the other way round where they are exchanged, and only an end itself is equal to it.

@@ -162,7 +162,7 @@ impl MemShelf {
 }
 
 impl Shelf for MemShelf {
-    ghost use Rattle.std.specs.Prelude.{◌≡◌, ◌≢◌, ◌+◌, ◌-◌, ◌↔◌, ◌⊎◌, [], ℕ, List, Some, None, IfOk, IsErr, IsSome, IsTrue, OnOk, OnErr, take};
+    ghost use Rattle.std.specs.Prelude.{◌≡◌, ◌≢◌, ◌+◌, ◌-◌, ◌/◌, ◌↔◌, ◌⊎◌, [], ℕ, List, Some, None, IfOk, IsErr, IsSome, IsTrue, OnOk, OnErr, take};
     ghost use Rattle.scap_world.specs.Causes.{counted, ended, raised, unless_memory};
     ghost use Rattle.scap_world.specs.Files.{put, file_of};
     ghost use Rattle.scap_world.specs.MemShelf.{files_of, read_count, write_count, taken_under, planned, piece_of, open_count, IsOpened, IsCreated};
@@ -292,7 +292,7 @@ impl Shelf for MemShelf {
     fn finish(&mut self, name: &str, sink: MemSink) -> Result<(), Failed>
         requires { IsSome (file_of (files_of self.old) name.now) }
         ensures ok { OnOk result (files_of self.new ≡ put name.now (held_of sink) (files_of self.old)) }
-        ensures err { OnErr result ((n : ℕ) × (files_of self.new ≡ put name.now (take n (held_of sink)) (files_of self.old))) }
+        ensures err { OnErr result (files_of self.new ≡ put name.now (take (length (held_of sink) / 2) (held_of sink)) (files_of self.old)) }
         ensures others { (other : List ℕ) → other ≢ name.now → file_of (files_of self.new) other ≡ file_of (files_of self.old) other }
         ensures taken { (other : List ℕ) → taken_under self.new other ≡ taken_under self.old other }
         ensures open_files { open_count self.new ≡ open_count self.old - 1 }

@@ -16,13 +16,13 @@ pub struct MemSink {
 }
 
 impl MemSink {
-    ghost use Rattle.std.specs.Prelude.{◌≡◌, ℕ, IsTrue, take};
+    ghost use Rattle.std.specs.Prelude.{◌≡◌, ◌/◌, IsTrue, length, take};
     ghost use Rattle.scap_world.specs.MemSink.{held_of};
 
     /// What is left of it once it is finished: half of it where that fails.
     pub(crate) fn into_bytes(self, fails: bool) -> Bytes
         ensures whole { ¬ IsTrue fails → result ≡ held_of self }
-        ensures front { (n : ℕ) × (result ≡ take n (held_of self)) }
+        ensures half { IsTrue fails → result ≡ take (length (held_of self) / 2) (held_of self) }
     {
         let MemSink { bytes, .. } = self;
         let mut bytes = bytes;

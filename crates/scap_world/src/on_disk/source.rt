@@ -1,4 +1,5 @@
-ghost use Rattle.std.specs.Prelude.{None};
+ghost use Rattle.std.specs.Prelude.{◌≡◌, ◌≢◌, ◌≤◌, IfOk, None, length};
+ghost use Rattle.scap_world.specs.Causes.{counted};
 
 use crate::{Source, WorldFault};
 use std::fs::File;
@@ -12,13 +13,21 @@ pub struct FileSource {
 }
 
 impl Source for FileSource {
+    ghost use Rattle.scap_world.specs.FileSource.{failed_reads};
+
     ghost left = { λ _. None };
 
     ghost taken = { λ _. 0 };
 
-    ghost faults = { λ s. s.faults };
+    ghost faults = { failed_reads };
 
-    fn read(&mut self, into: &mut [u8]) -> Result<usize, WorldFault> {
+    fn read(&mut self, into: &mut [u8]) -> Result<usize, WorldFault>
+        ensures bound { IfOk result (λ n. n ≤ length into.new) }
+
+        // A failure alone is counted, and the call takes no memory.
+        ensures counted { failed_reads self.new ≡ counted result (failed_reads self.old) }
+        ensures no_memory { result ≢ Err WorldFault.Memory }
+    {
         match self.file.read(into) {
             Ok(n) => Ok(n),
             Err(_) => {

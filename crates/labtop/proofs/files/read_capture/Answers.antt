@@ -1,4 +1,3 @@
-use Rattle.std.proofs.Common.{sym, ◌∙◌}
 use Rattle.labtop.proofs.ReadLemmas.{verdict_read}
 use Rattle.labtop.proofs.files.read_capture.Goals as goal
 

@@ -1,0 +1,189 @@
+#!/usr/bin/env python3
+"""Measures `scaplab drill` on captures that make_udp.py makes, and checks both output files against model.py.
+
+Time is the best of the runs, from the start of the program to its end. Peak memory is the largest resident size of
+one more run, by /usr/bin/time. The copy reads and writes the capture and both outputs once, in pieces of 64 KiB.
+Ends with 1 where a run fails or a file differs from the model's.
+"""
+
+import argparse
+import os
+import pathlib
+import subprocess
+import sys
+import tempfile
+import time
+from dataclasses import dataclass
+
+# The folder of the scripts stays as it is.
+sys.dont_write_bytecode = True
+
+import make_udp
+import model
+
+HERE = pathlib.Path(__file__).resolve().parent
+PROGRAM = HERE.parent / "crates" / "scaplab" / "out" / "scaplab"
+TIME = "/usr/bin/time"
+DATAGRAMS = (1_000, 10_000, 100_000)
+KEYS = (1, 64, 10_000)
+PAYLOAD = 100
+SEED = 1
+RUNS = 3
+PIECE = 65_536
+# Datagrams, keys and longest payload of captures that are only checked. Their payloads have any length from 0.
+CHECKED = (
+    (0, 1, 0), (1, 1, 0), (1, 1, 100), (2, 1, 3), (2, 2, 3),
+    (1_000, 1, 1), (1_000, 64, 100), (1_000, 1_000, 100),
+)
+COLUMNS = (
+    "datagrams", "keys", "capture B", "output B", "seconds", "us/datagram",
+    "peak KiB", "peak B/datagram", "x copy", "equal",
+)
+
+
+@dataclass
+class Files:
+    """A capture and what a run makes of it."""
+
+    folder: pathlib.Path
+
+    @property
+    def capture(self):
+        return self.folder / "capture.pcap"
+
+    @property
+    def out(self):
+        return self.folder / "out"
+
+    @property
+    def outputs(self):
+        return [self.folder / "out.0", self.folder / "out.report"]
+
+    @property
+    def every(self):
+        return [self.capture, *self.outputs]
+
+
+def run_checked(words):
+    run = subprocess.run(words, stdout=subprocess.PIPE, check=False)
+    if run.returncode != 0 or run.stdout != b"done\n":
+        sys.exit(f"{words}: status {run.returncode}, printed {run.stdout!r}")
+
+
+def drill_words(program, files):
+    return [str(program), "drill", str(files.capture), str(files.out)]
+
+
+def seconds_of(action):
+    begin = time.perf_counter()
+    action()
+    return time.perf_counter() - begin
+
+
+def best_seconds(action):
+    return min(seconds_of(action) for _ in range(RUNS))
+
+
+def start_seconds(program):
+    """How long a run takes that only prints the usage line."""
+    return best_seconds(lambda: subprocess.run([str(program)], stdout=subprocess.DEVNULL, check=False))
+
+
+def peak_kib(program, files):
+    """The peak memory of a run. A child's own count would begin with the memory of this script, so `time` starts it."""
+    note = files.folder / "peak"
+    run_checked([TIME, "-o", str(note), "-f", "%M", *drill_words(program, files)])
+    return int(note.read_text())
+
+
+def copy_file(path, copy):
+    with open(path, "rb", buffering=0) as source, open(copy, "wb", buffering=0) as target:
+        while piece := source.read(PIECE):
+            target.write(piece)
+
+
+def copy_all(files):
+    for path in files.every:
+        copy_file(path, files.folder / "copy")
+
+
+def is_as_modelled(files):
+    texts = model.files_of(files.capture.read_bytes())
+    return all(path.read_bytes() == text for path, text in zip(files.outputs, texts))
+
+
+def size_of(paths):
+    return sum(os.path.getsize(path) for path in paths)
+
+
+def measure(program, files, datagrams, keys):
+    """A row of the table."""
+    make_udp.write_capture(files.capture, datagrams, keys, PAYLOAD, SEED)
+    seconds = best_seconds(lambda: run_checked(drill_words(program, files)))
+    peak = peak_kib(program, files)
+    copy = best_seconds(lambda: copy_all(files))
+    return (
+        f"{datagrams}", f"{keys}", f"{size_of([files.capture])}", f"{size_of(files.outputs)}",
+        f"{seconds:.4f}", f"{seconds * 1e6 / datagrams:.2f}", f"{peak}", f"{peak * 1024 / datagrams:.0f}",
+        f"{seconds / copy:.1f}", "yes" if is_as_modelled(files) else "NO",
+    )
+
+
+def print_row(cells):
+    print("| " + " | ".join(cells) + " |", flush=True)
+
+
+def print_table(program, files):
+    """Answers whether all files are the model's."""
+    print_row(COLUMNS)
+    print_row(["--:"] * len(COLUMNS))
+    equal = True
+    for datagrams in DATAGRAMS:
+        for keys in KEYS:
+            row = measure(program, files, datagrams, min(keys, datagrams))
+            print_row(row)
+            equal = equal and row[-1] == "yes"
+    return equal
+
+
+def check(program, files, datagrams, keys, longest):
+    """Answers whether the files of a capture with payloads of mixed lengths are the model's."""
+    make_udp.write_capture(files.capture, datagrams, keys, longest, SEED, mixed=True)
+    run_checked(drill_words(program, files))
+    equal = is_as_modelled(files)
+    if not equal:
+        print(f"differs: make_udp.py {datagrams} {keys} {longest} {SEED} OUTPUT --mixed")
+    return equal
+
+
+def print_checks(program, files):
+    """Answers whether all files are the model's."""
+    equal = [check(program, files, *shape) for shape in CHECKED]
+    print(f"payloads of mixed lengths: {sum(equal)} of {len(equal)} captures equal")
+    return all(equal)
+
+
+def parse_words():
+    parser = argparse.ArgumentParser(description=__doc__, formatter_class=argparse.RawDescriptionHelpFormatter)
+    parser.add_argument("program", nargs="?", type=pathlib.Path, default=PROGRAM, help="the built scaplab")
+    words = parser.parse_args()
+    for needed in (words.program, pathlib.Path(TIME)):
+        if not os.access(needed, os.X_OK):
+            parser.error(f"{needed} can't be run")
+    return words
+
+
+def main():
+    program = parse_words().program.resolve()
+    with tempfile.TemporaryDirectory() as folder:
+        files = Files(pathlib.Path(folder))
+        print(f"start alone: {start_seconds(program):.4f} seconds\n", flush=True)
+        equal = print_table(program, files)
+        print()
+        equal = print_checks(program, files) and equal
+    print("every file is the model's" if equal else "a file differs from the model's")
+    sys.exit(0 if equal else 1)
+
+
+if __name__ == "__main__":
+    main()
