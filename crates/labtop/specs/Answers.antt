@@ -7,6 +7,8 @@ use Rattle.labtop.specs.Report.{report_text}
 use Rattle.labtop.specs.Names.{delivery_name, report_name}
 use Rattle.labtop.specs.Drill.{Verdict, Delivers, Refused, NotBuilt}
 
+-- docs/RULES.md, "The run" and "Answers".
+
 -- the statuses that a verdict allows: want of memory and a fault of reading may stand in place of its own
 abbrev pub Allows : Verdict → Status → Type 0
 Allows verdict Memory = Unit {0}

@@ -11,6 +11,8 @@ use Rattle.labtop.specs.declared.way.Way.TheVariants.{Fore, Back}
 use Rattle.labtop.specs.Scapconf.{Packet}
 use Rattle.labtop.specs.Handler.{new_line, data_line, finish_line}
 
+-- docs/RULES.md, "Conversations" and "Deliveries".
+
 -- whether a packet has that key
 abbrev pub has_key : Key → Packet → Bool
 has_key key p = is_eq (key_order key p.key)

@@ -8,6 +8,8 @@ use Rattle.pcapfile.specs.Capture.{Limits, End, Whole, Cut, TooBig, TooLong, Rec
 use Rattle.labtop.specs.declared.capture.TheConstants.{MOST_FRAMES, MOST_BYTES, MOST_BUILT, IDLE}
 use Rattle.labtop.specs.Scapconf.{Packet, packets_from}
 
+-- docs/RULES.md, "Answers".
+
 -- what a capture's bytes ask for: the delivery of its packets, a refusal, or what isn't built yet
 pub data Verdict : Type 0 where
   Delivers : List Packet → Verdict

@@ -9,7 +9,7 @@ use Rattle.streamkey.specs.declared.end.End.{End}
 use Rattle.labtop.specs.declared.way.Way.{Way}
 use Rattle.labtop.specs.declared.way.Way.TheVariants.{Fore, Back}
 
--- the lines of a delivery file
+-- the lines of a delivery file: docs/FORMATS.md, "Delivery lines".
 
 -- four decimal numbers joined by dots
 unfoldable pub dotted : List ℕ → List ℕ

@@ -58,6 +58,8 @@ ipv4 packet =
     Ip (slice_index packet 9) (V4 (four_at packet 12)) (V4 (four_at packet 16)) (declared_length packet)
     (take (declared_length packet) (drop (header_length packet) packet))
 
+-- Ethernet II
+
 -- what an EtherType leads to: 0x0800 to IPv4; tags (0x8100 and 0x88A8) and IPv6 (0x86DD) are not read yet
 abbrev pub by_ether_type : ℕ → List ℕ → Carried
 by_ether_type type packet =

@@ -1,5 +1,7 @@
 use Rattle.std.specs.Prelude.{ℕ, List, ◌++◌, codes}
 
+-- docs/RULES.md, "The run".
+
 -- the file of the deliveries
 abbrev pub delivery_name : List ℕ → List ℕ
 delivery_name out = out ++ codes ".0"

@@ -9,6 +9,8 @@ use Rattle.labtop.specs.declared.transport.Skip.{Skip}
 use Rattle.labtop.specs.declared.transport.Skip.TheVariants as skip
 use Rattle.labtop.specs.Linkip.{Carried, Ip, Fragment, Other, Short, Unread, short_at, network}
 
+-- docs/FORMATS.md, "Headers".
+
 -- what a record is: a packet with its key, its way and its payload, or one that is skipped. `Later` are those that are not read yet
 pub data Kind : Type 0 where
   Accepted : (key : Key) (toward : Toward) (payload : List ℕ) → Kind

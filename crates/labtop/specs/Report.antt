@@ -8,6 +8,8 @@ use Rattle.labtop.specs.Scapconf.{Packet}
 use Rattle.labtop.specs.Convo.{bytes_of, delivered_of, is_empty, openers}
 use Rattle.labtop.specs.Tally.{counted, dir_line, head_lines, records_line, bytes_line, status_line}
 
+-- docs/RULES.md, "Totals", and docs/FORMATS.md, "The report".
+
 -- what became of a direction's bytes: so far all that came is delivered
 abbrev pub sums_of : Key → Toward → List Packet → Sums
 sums_of key toward packets = counted (bytes_of key toward packets) (delivered_of key toward packets)

@@ -4,6 +4,8 @@ use Rattle.streamkey.specs.declared.toward.Toward.{Toward}
 use Rattle.pcapfile.specs.declared.frame.Frame.{Frame}
 use Rattle.labtop.specs.Porthdr.{Kind, Accepted, Skipped, Later, kind_of}
 
+-- docs/RULES.md, "Packets".
+
 -- an accepted packet: the number of its record, counted from 1, its clock, its conversation's key, its way, and its payload
 pub record Packet : Type 0 where
   pub number : ℕ

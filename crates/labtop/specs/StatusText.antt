@@ -4,6 +4,8 @@ use Rattle.pcapfile.specs.declared.head_fault.HeadFault.TheVariants as fault
 use Rattle.labtop.specs.declared.status.Status.{Status}
 use Rattle.labtop.specs.declared.status.Status.TheVariants.{Done, Memory, Usage, ReadFault, WriteFault, NotPcap, Unbuilt}
 
+-- docs/FORMATS.md, "Statuses".
+
 -- the number that a program ends with
 abbrev pub number_of : Status → ℕ
 number_of Done = 0

@@ -5,7 +5,7 @@ use Rattle.labtop.specs.declared.sums.Sums.{Sums}
 use Rattle.labtop.specs.declared.counts.RecordCounts.{RecordCounts}
 use Rattle.labtop.specs.Handler.{way_mark, spaced}
 
--- the lines of a report
+-- the lines of a report: docs/FORMATS.md, "The report".
 
 -- so many bytes, and so many of them delivered: none is duplicate, late, cut off or shed, and there is no gap
 abbrev pub counted : (payload delivered : ℕ) → Sums

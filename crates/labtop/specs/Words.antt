@@ -5,6 +5,8 @@ use Rattle.labtop.specs.Names.{delivery_name, report_name}
 use Rattle.labtop.specs.declared.words.Asked.{Asked}
 use Rattle.labtop.specs.declared.words.Asked.TheVariants as asked
 
+-- docs/RULES.md, "The run" and "Answers".
+
 -- what words ask for: `Later` are those of commands and options that are not built yet, `Wrong` all others
 pub data Command : Type 0 where
   Drill : (capture out : List ℕ) → Command

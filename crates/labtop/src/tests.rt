@@ -196,7 +196,7 @@ fn one_record_that_is_not_built_is_enough(rt: HostRuntime) -> Result<(), Fail> {
 #[test]
 fn datagrams_are_read_by_their_headers(rt: HostRuntime) -> Result<(), Fail> {
     let alloc = rt.alloc();
-    let cases: [(&[(usize, u8)], &str); 7] = [
+    let cases: [(&[(usize, u8)], &str); 8] = [
         // The UDP length says no payload: no data line.
         (
             &[(79, 8)],
@@ -216,6 +216,8 @@ fn datagrams_are_read_by_their_headers(rt: HostRuntime) -> Result<(), Fail> {
             "new 1 udp 10.0.0.1 5000 10.0.0.2 53\ndata 1 > 0 0 0 0 68\nend 1 finish\n",
         ),
         (&[(57, 0)], DELIVERY),
+        // Both say a byte more than was captured: what was captured counts.
+        (&[(57, 0x1f), (79, 0x0b)], DELIVERY),
         // The source is the high end.
         (
             &[(69, 3)],
