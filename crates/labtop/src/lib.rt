@@ -32,6 +32,3 @@ mod words;
 pub use memory::Memory;
 pub use status::Status;
 pub use top::{LabDone, lab_top};
-
-#[cfg(test)]
-mod tests;

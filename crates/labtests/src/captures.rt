@@ -1,0 +1,90 @@
+ghost use Rattle.std.specs.Prelude.{◌<◌, length};
+
+use scap_world::{MemShelf, Memory};
+use std::alloc::{AllocError, Global};
+use std::process::Abort;
+
+// One record at 1 s and 5 us: Ethernet, IPv4 from 10.0.0.1 to 10.0.0.2, UDP from port 5000 to port 53, "hi".
+pub(crate) const ONE: [u8; 84] = [
+    0xd4, 0xc3, 0xb2, 0xa1, 0x02, 0x00, 0x04, 0x00, 0x00, 0x00, 0x00, 0x00, 0x00, 0x00, 0x00, 0x00,
+    0x00, 0x00, 0x04, 0x00, 0x01, 0x00, 0x00, 0x00, 0x01, 0x00, 0x00, 0x00, 0x05, 0x00, 0x00, 0x00,
+    0x2c, 0x00, 0x00, 0x00, 0x2c, 0x00, 0x00, 0x00, 0x02, 0x00, 0x00, 0x00, 0x00, 0x02, 0x02, 0x00,
+    0x00, 0x00, 0x00, 0x01, 0x08, 0x00, 0x45, 0x00, 0x00, 0x1e, 0x00, 0x00, 0x00, 0x00, 0x40, 0x11,
+    0x00, 0x00, 0x0a, 0x00, 0x00, 0x01, 0x0a, 0x00, 0x00, 0x02, 0x13, 0x88, 0x00, 0x35, 0x00, 0x0a,
+    0x00, 0x00, 0x68, 0x69,
+];
+
+pub(crate) const DELIVERY: &str =
+    "new 1 udp 10.0.0.1 5000 10.0.0.2 53\ndata 1 > 0 0 0 0 6869\nend 1 finish\n";
+
+pub(crate) const REPORT: &str =
+    "scap report 1\ncores 1 workers 1\ndir 1 > 2 2 0 0 0 0 0 0\ndir 1 < 0 0 0 0 0 0 0 0\nrecords 1 accepted 1 filtered 0 other 0 fragment 0 short 0\nbytes payload 2 delivered 2 duplicate 0 late 0 cut 0 shed 0\nstatus 0\n";
+
+pub(crate) const WORDS: [&str; 4] = ["scaplab", "drill", "cap", "out"];
+
+pub(crate) fn shelf_with(alloc: Global, capture: &[u8]) -> Result<MemShelf, Memory> {
+    let mut shelf = MemShelf::new(alloc);
+    shelf.add("cap", capture)?;
+    Ok(shelf)
+}
+
+/// That capture with other bytes at places of it.
+pub(crate) fn changed(alloc: Global, changes: &[(usize, u8)]) -> Result<Vec<u8>, AllocError> {
+    let mut bytes = Vec::from_slice(alloc, &ONE)?;
+    for (at, byte) in changes {
+        if let Some(place) = bytes.get_mut(*at) {
+            *place = *byte;
+        }
+    }
+    Ok(bytes)
+}
+
+/// Appends the record of a datagram: its second, the last byte of the address and the port of its source and its target.
+pub(crate) fn put_record(
+    capture: &mut Vec<u8>,
+    second: u8,
+    source: (u8, u8),
+    target: (u8, u8),
+    payload: &[u8],
+) -> Result<(), AllocError>
+    requires { length payload.now < 100 }
+{
+    let n = payload.len() as u8;
+    let record = [
+        second,
+        0,
+        0,
+        0,
+        0,
+        0,
+        0,
+        0,
+        42 + n,
+        0,
+        0,
+        0,
+        42 + n,
+        0,
+        0,
+        0,
+    ];
+    capture.extend_from_slice(&record)?;
+    capture.extend_from_slice(&ONE[40..54])?;
+    capture.extend_from_slice(&[0x45, 0, 0, 28 + n, 0, 0, 0, 0, 0x40, 0x11, 0, 0])?;
+    capture.extend_from_slice(&[10, 0, 0, source.0, 10, 0, 0, target.0])?;
+    capture.extend_from_slice(&[0, source.1, 0, target.1, 0, 8 + n, 0, 0])?;
+    capture.extend_from_slice(payload)
+}
+
+pub(crate) fn expect_files(
+    rt: &impl Abort,
+    shelf: &MemShelf,
+    delivery: Option<&str>,
+    report: Option<&str>,
+) {
+    assert_eq!(rt; shelf.file("out.0"), delivery.map(|text| text.as_bytes()));
+    assert_eq!(rt;
+        shelf.file("out.report"),
+        report.map(|text| text.as_bytes())
+    );
+}

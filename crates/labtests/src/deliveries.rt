@@ -1,0 +1,125 @@
+ghost use Rattle.std.specs.Prelude.{◌<◌};
+
+use crate::captures::{
+    DELIVERY, ONE, REPORT, WORDS, changed, expect_files, put_record, shelf_with,
+};
+use labtop::{Status, lab_top};
+use scap_world::{MemShelf, Memory};
+use std::alloc::Global;
+use std::process::Abort;
+use std::test::Fail;
+
+fn has_file(shelf: &MemShelf, name: &str, bytes: &[u8]) -> bool {
+    match shelf.file(name) {
+        Some(found) => found == bytes,
+        None => false,
+    }
+}
+
+/// The run over files that are read and written so many bytes at a time.
+fn expect_delivery(rt: &impl Abort, alloc: Global, piece: usize) -> Result<(), Memory>
+    requires { 0 < piece }
+{
+    let mut shelf = shelf_with(alloc, &ONE)?;
+    shelf.add("other", b"stays")?;
+    shelf.add("out.0", b"goes")?;
+    shelf.set_piece(piece);
+    let done = lab_top(alloc, &WORDS, &mut shelf);
+    assert_eq!(rt; done.status, Status::Done, "by {piece}");
+    expect_files(rt, &shelf, Some(DELIVERY), Some(REPORT));
+    assert!(rt; has_file(&shelf, "other", b"stays"));
+    assert!(rt; has_file(&shelf, "cap", &ONE));
+    Ok(())
+}
+
+#[test]
+fn one_datagram_is_delivered_however_it_is_read(rt: HostRuntime) -> Result<(), Fail> {
+    let alloc = rt.alloc();
+    expect_delivery(&rt, alloc, 1)?;
+    expect_delivery(&rt, alloc, 7)?;
+    expect_delivery(&rt, alloc, 65_536)?;
+    Ok(())
+}
+
+#[test]
+fn an_empty_capture_gives_an_empty_delivery_file(rt: HostRuntime) -> Result<(), Fail> {
+    let alloc = rt.alloc();
+    let mut shelf = shelf_with(alloc, &ONE[..24])?;
+    let done = lab_top(alloc, &WORDS, &mut shelf);
+    assert_eq!(rt; done.status, Status::Done);
+    let report =
+        "scap report 1\ncores 1 workers 1\nrecords 0 accepted 0 filtered 0 other 0 fragment 0 short 0\nbytes payload 0 delivered 0 duplicate 0 late 0 cut 0 shed 0\nstatus 0\n";
+    expect_files(&rt, &shelf, Some(""), Some(report));
+    Ok(())
+}
+
+#[test]
+fn conversations_are_told_apart_by_their_ends(rt: HostRuntime) -> Result<(), Fail> {
+    let alloc = rt.alloc();
+    let mut capture = Vec::from_slice(alloc, &ONE[..24])?;
+    put_record(&mut capture, 1, (2, 50), (3, 53), b"ab")?;
+    put_record(&mut capture, 1, (3, 53), (2, 50), b"xyz")?;
+    put_record(&mut capture, 1, (2, 50), (3, 53), b"")?;
+    // Its key comes before that of the first conversation.
+    put_record(&mut capture, 2, (2, 50), (1, 7), b"q")?;
+    put_record(&mut capture, 2, (2, 50), (3, 53), b"c")?;
+    put_record(&mut capture, 2, (3, 53), (2, 50), b"w")?;
+    // The same addresses with another port, and no payload.
+    put_record(&mut capture, 3, (3, 54), (2, 50), b"")?;
+    // Both ends are the same.
+    put_record(&mut capture, 3, (9, 9), (9, 9), b"e")?;
+    put_record(&mut capture, 3, (9, 9), (9, 9), b"f")?;
+    let mut shelf = shelf_with(alloc, &capture)?;
+    let done = lab_top(alloc, &WORDS, &mut shelf);
+    assert_eq!(rt; done.status, Status::Done);
+    let delivery =
+        "new 1 udp 10.0.0.2 50 10.0.0.3 53\ndata 1 > 0 0 0 0 6162\ndata 1 < 0 0 0 0 78797a\nnew 4 udp 10.0.0.2 50 10.0.0.1 7\ndata 4 > 0 0 0 0 71\ndata 1 > 2 0 0 0 63\ndata 1 < 3 0 0 0 77\nnew 7 udp 10.0.0.3 54 10.0.0.2 50\nnew 8 udp 10.0.0.9 9 10.0.0.9 9\ndata 8 > 0 0 0 0 65\ndata 8 > 1 0 0 0 66\nend 1 finish\nend 4 finish\nend 7 finish\nend 8 finish\n";
+    let report =
+        "scap report 1\ncores 1 workers 1\ndir 1 > 3 3 0 0 0 0 0 0\ndir 1 < 4 4 0 0 0 0 0 0\ndir 4 > 1 1 0 0 0 0 0 0\ndir 4 < 0 0 0 0 0 0 0 0\ndir 7 > 0 0 0 0 0 0 0 0\ndir 7 < 0 0 0 0 0 0 0 0\ndir 8 > 2 2 0 0 0 0 0 0\ndir 8 < 0 0 0 0 0 0 0 0\nrecords 9 accepted 9 filtered 0 other 0 fragment 0 short 0\nbytes payload 10 delivered 10 duplicate 0 late 0 cut 0 shed 0\nstatus 0\n";
+    expect_files(&rt, &shelf, Some(delivery), Some(report));
+    Ok(())
+}
+
+#[test]
+fn datagrams_are_read_by_their_headers(rt: HostRuntime) -> Result<(), Fail> {
+    let alloc = rt.alloc();
+    let cases: [(&[(usize, u8)], &str); 8] = [
+        // The UDP length says no payload: no data line.
+        (
+            &[(79, 8)],
+            "new 1 udp 10.0.0.1 5000 10.0.0.2 53\nend 1 finish\n",
+        ),
+        // It says one byte.
+        (
+            &[(79, 9)],
+            "new 1 udp 10.0.0.1 5000 10.0.0.2 53\ndata 1 > 0 0 0 0 68\nend 1 finish\n",
+        ),
+        // It says nothing, or more than IP declares: what IP declares counts.
+        (&[(79, 0)], DELIVERY),
+        (&[(78, 1)], DELIVERY),
+        // IP declares one byte less, or nothing: what was captured counts.
+        (
+            &[(57, 0x1d), (79, 0)],
+            "new 1 udp 10.0.0.1 5000 10.0.0.2 53\ndata 1 > 0 0 0 0 68\nend 1 finish\n",
+        ),
+        (&[(57, 0)], DELIVERY),
+        // Both say a byte more than was captured: what was captured counts.
+        (&[(57, 0x1f), (79, 0x0b)], DELIVERY),
+        // The source is the high end.
+        (
+            &[(69, 3)],
+            "new 1 udp 10.0.0.3 5000 10.0.0.2 53\ndata 1 > 0 0 0 0 6869\nend 1 finish\n",
+        ),
+    ];
+    for (changes, delivery) in cases {
+        let mut shelf = shelf_with(alloc, &changed(alloc, changes)?)?;
+        let done = lab_top(alloc, &WORDS, &mut shelf);
+        assert_eq!(rt; done.status, Status::Done, "at {changes:?}");
+        assert_eq!(rt;
+            shelf.file("out.0"),
+            Some(delivery.as_bytes()),
+            "at {changes:?}"
+        );
+    }
+    Ok(())
+}
