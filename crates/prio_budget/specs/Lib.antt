@@ -1,0 +1,9 @@
+pub mod Answers
+pub mod BudgetParts
+pub mod ChargeParts
+pub mod Laws
+pub mod MarkParts
+pub mod Marks
+pub mod Out
+pub mod Rows
+pub mod Share
