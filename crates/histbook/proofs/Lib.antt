@@ -1,0 +1,6 @@
+pub mod FrontLemmas
+pub mod AdviceLemmas
+pub mod RunsLemmas
+pub mod TextLemmas
+pub mod BudgetLemmas
+pub mod MovesLemmas
