@@ -1,0 +1,15 @@
+pub mod Stretches
+pub mod CountedOnce
+pub mod Delivered
+pub mod Conserved
+pub mod OrderedViews
+pub mod Balanced
+pub mod FastRuns
+pub mod Histories
+pub mod Pushes
+pub mod FastRule
+pub mod LawfulRuns
+pub mod RefusedRuns
+pub mod UnderWay
+pub mod Accounted
+pub mod CrowdedRun

@@ -1,0 +1,20 @@
+-- Cutoffs, and classes of conversations.
+use Rattle.std.specs.Prelude.{ℕ, List, [], ◌∷◌, Option, Some, None}
+
+-- a cutoff: not set, set to none, or set to a position
+pub data Cut : Type 0 where
+  Unset : Cut
+  Endless : Cut
+  At : ℕ → Cut
+
+-- what a class line gives a conversation
+pub record Class : Type 0 where
+  pub priority : ℕ
+  pub cutoff : Cut
+
+-- the cutoff in force: the first that is set
+abbrev pub first_set : List Cut → Option ℕ
+first_set [] = None
+first_set (Unset ∷ cuts) = first_set cuts
+first_set (Endless ∷ cuts) = None
+first_set (At position ∷ cuts) = Some position
