@@ -25,7 +25,7 @@ module _ {A : Type 0} (f g h : A → ℕ) where
   total_sum (x ∷ xs) sums = omega (arith, sums x, total_sum xs sums)
 
 module _ {A : Type 0} where
-  each_of : (P Q : A → Type 0) → ((x : A) → P x → Q x) → (xs : List A) → Each P xs → Each Q xs
+  pub each_of : (P Q : A → Type 0) → ((x : A) → P x → Q x) → (xs : List A) → Each P xs → Each Q xs
   each_of P Q h [] e = tt
   each_of P Q h (x ∷ xs) e = (h x e.0, each_of P Q h xs e.1)
 

@@ -4,3 +4,4 @@ pub mod RunsLemmas
 pub mod TextLemmas
 pub mod BudgetLemmas
 pub mod MovesLemmas
+pub mod InTurnLemmas

@@ -13,7 +13,7 @@ use Rattle.histbook.specs.Moves.{looks_in, frees_in, grant_of, entry_moves, book
 use Rattle.histbook.proofs.BudgetLemmas.{total_append, OnGrant, checked_once, each_had_room}
 
 module _ {C : Type 0} where
-  each_append : (P : C → Type 0) (xs ys : List C) → Each P xs → Each P ys → Each P (xs ++ ys)
+  pub each_append : (P : C → Type 0) (xs ys : List C) → Each P xs → Each P ys → Each P (xs ++ ys)
   each_append P [] ys h k = k
   each_append P (x ∷ xs) ys h k = (h.0, each_append P xs ys h.1 k)
 
@@ -26,12 +26,12 @@ module _ {C : Type 0} where
   each_right P (x ∷ xs) ys h = each_right P xs ys h.1
 
 module _ {A B : Type 0} where
-  each_part : {X : Type 0} (P : A → Type 0) (Q : B → Type 0) (f : X → List A) (g : X → List B) → ((x : X) → Each P (f x) → Each Q (g x)) → (xs : List X) → Each P (flat_map f xs) → Each Q (flat_map g xs)
+  pub each_part : {X : Type 0} (P : A → Type 0) (Q : B → Type 0) (f : X → List A) (g : X → List B) → ((x : X) → Each P (f x) → Each Q (g x)) → (xs : List X) → Each P (flat_map f xs) → Each Q (flat_map g xs)
   each_part P Q f g h [] e = tt
   each_part P Q f g h (x ∷ xs) e = each_append Q (g x) (flat_map g xs) (h x (each_left P (f x) (flat_map f xs) e)) (each_part P Q f g h xs (each_right P (f x) (flat_map f xs) e))
 
 module _ (P : Look → Type 0) where
-  granted_look : (look : LookEntry) → P look.look → Each (OnGrant P) (grant_of look)
+  pub granted_look : (look : LookEntry) → P look.look → Each (OnGrant P) (grant_of look)
   granted_look look h = by_test look.granted
     where
       by_test : (b : Bool) → Each (OnGrant P) (if b then Grant look.look look.asked ∷ [] else [])

@@ -68,3 +68,14 @@ found_one_more = four_datagrams_with (look false 1400 2 2801) its_frees its_last
 
 abbrev pub one_byte_kept : Journal
 one_byte_kept = four_datagrams_with its_third its_frees (free 1199 5 ∷ [])
+
+-- a packet that is granted bytes, a second one with a look and a release, and the rest given back
+abbrev pub asked_and_freed : LookEntry → Free → Journal
+asked_and_freed second back = of_one_core (came 1 0 (look true 2 0 0) ∷ record { conv = 1; entry = Seg 2 0 (second ∷ []) (back ∷ []) } ∷ answered 2 (free 3 3 ∷ []) ∷ []) (0 ∷ [])
+
+-- the look before the release, and behind it
+abbrev pub look_first : Journal
+look_first = asked_and_freed (look true 3 1 2) (free 2 2)
+
+abbrev pub release_first : Journal
+release_first = asked_and_freed (look true 3 2 0) (free 2 1)

@@ -1,10 +1,11 @@
 //! Journals written out by hand: their text, and whether they are the history of a budget, by computation. Of a journal
 //! with one number off, one part of the history is refused and the others hold; room for each grant follows from those.
-ghost use Rattle.std.specs.Prelude.{◌≡◌, codes};
+ghost use Rattle.std.specs.Prelude.{◌≡◌, codes, flat_map};
 ghost use Rattle.histbook.specs.JournalText.{journal_text};
 ghost use Rattle.histbook.specs.Budget.{HasEachStampOnce, FoundTheUsed, HadRoom, StaysWithin, IsSettled};
 ghost use Rattle.histbook.specs.Moves.{journal_moves, journal_looks, IsBudgetHistory};
-ghost use Rattle.histbook.specs.Rows.{one_datagram, four_datagrams, stamp_twice, stamp_too_high, look_too_late, found_one_more, one_byte_kept};
+ghost use Rattle.histbook.specs.InTurn.{book_steps, IsInTurn, peak_along, peak};
+ghost use Rattle.histbook.specs.Rows.{one_datagram, four_datagrams, stamp_twice, stamp_too_high, look_too_late, found_one_more, one_byte_kept, look_first, release_first};
 
 /// One datagram of two bytes.
 pub fn one_datagram_is_a_history()
@@ -80,4 +81,28 @@ pub fn all_is_given_back()
     ensures room { HadRoom 4096 0 (journal_moves one_byte_kept) }
     ensures within { StaysWithin 4096 (journal_moves one_byte_kept) }
     ensures settled { ¬ IsSettled (journal_moves one_byte_kept) }
+{}
+
+/// The four datagrams were done in turn, up to 4,000 bytes.
+pub fn four_datagrams_are_done_in_turn()
+    ensures turn { IsInTurn 4096 (flat_map book_steps four_datagrams.cores) 0 0 6 0 }
+    ensures tight { IsInTurn 4000 (flat_map book_steps four_datagrams.cores) 0 0 6 0 }
+    ensures along { peak_along (flat_map book_steps four_datagrams.cores) 0 ≡ 4000 }
+    ensures moves { peak (journal_moves four_datagrams) ≡ 4000 }
+{}
+
+/// A limit one lower than the peak, a stamp twice, a refused look that found one byte more, and one byte kept to the end.
+pub fn no_turn_with_a_number_off()
+    ensures limit { ¬ IsInTurn 3999 (flat_map book_steps four_datagrams.cores) 0 0 6 0 }
+    ensures twice { ¬ IsInTurn 4096 (flat_map book_steps stamp_twice.cores) 0 0 6 0 }
+    ensures found { ¬ IsInTurn 4096 (flat_map book_steps found_one_more.cores) 0 0 6 0 }
+    ensures kept { ¬ IsInTurn 4096 (flat_map book_steps one_byte_kept.cores) 0 0 6 0 }
+{}
+
+/// The looks of an entry stand before its releases: the other way round it is a history too, but not in turn.
+pub fn looks_stand_before_releases()
+    ensures turn { IsInTurn 5 (flat_map book_steps look_first.cores) 0 0 4 0 }
+    ensures along { peak_along (flat_map book_steps look_first.cores) 0 ≡ 5 }
+    ensures history { IsBudgetHistory 5 release_first }
+    ensures other { ¬ IsInTurn 5 (flat_map book_steps release_first.cores) 0 0 4 0 }
 {}

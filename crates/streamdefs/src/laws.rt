@@ -1,18 +1,19 @@
 //! What follows from the definitions, each law as the contract of a function with an empty body.
-ghost use Rattle.std.specs.Prelude.{◌≡◌, ℕ, ◌+◌, true, false, List, [], ◌∷◌, ◌++◌, length, Some};
+ghost use Rattle.std.specs.Prelude.{◌≡◌, ℕ, ◌+◌, max, true, false, List, [], ◌∷◌, ◌++◌, length, map, Option, Some, ℤ};
 ghost use Rattle.histbook.specs.declared.look_entry.LookEntry.{LookEntry as Look};
 ghost use Rattle.streamdefs.specs.Terms.{Terms};
-ghost use Rattle.streamdefs.specs.Reorder.{Placed};
-ghost use Rattle.streamdefs.specs.View.{charged, front_after};
+ghost use Rattle.streamdefs.specs.Reorder.{Placed, placed_from};
+ghost use Rattle.streamdefs.specs.Ranges.{range_of, between, cut_at};
+ghost use Rattle.streamdefs.specs.View.{charged, front_after, runs};
 ghost use Rattle.streamdefs.specs.Pending.{fresh_in, bytes_in, blocks};
 ghost use Rattle.streamdefs.specs.Direction.{Direction, Deed, Segment, Kind, counts_by, runs_of, pieces_by, pending_by, gone_by, view_after, direction_after, spares_by, sum_of};
 ghost use Rattle.streamdefs.specs.Direction.Deed.{Arrives};
 ghost use Rattle.streamdefs.specs.Packet.{Packet};
-ghost use Rattle.streamdefs.specs.Convo.{Convo, Act, new_convo, convo_after, is_live};
+ghost use Rattle.streamdefs.specs.Convo.{Convo, Act, new_convo, after, convo_after, is_live};
 ghost use Rattle.streamdefs.specs.Totals.{total_of};
 ghost use Rattle.streamdefs.specs.Accounts.{waiting_of, IsAccountedWith, IsAccounted};
 ghost use Rattle.evring.specs.declared.way.Way.{Way};
-ghost use Rattle.streamdefs.specs.Core.{Core, Line, core_at, find_convo, history};
+ghost use Rattle.streamdefs.specs.Core.{Core, Line, core_after, core_at, find_convo, history};
 ghost use Rattle.streamdefs.specs.Ordered.{IsOrdered};
 ghost use Rattle.streamdefs.specs.Amounts.{amount, amount_in, amount_pieces, amount_granted};
 ghost use Rattle.streamdefs.specs.FastMode.{ComesFast, IsOneAtMost, block_behind};
@@ -79,4 +80,17 @@ pub fn fast_mode_holds_nothing()
         → view_after terms kind d (Arrives s (look ∷ [])) ≡ d.view }
     ensures none { (terms : Terms) (kind : Kind) (d : Direction) (s : Segment) (looks : List Look) → ComesFast kind d s → runs_of kind d s ≡ []
         → view_after terms kind d (Arrives s looks) ≡ d.view }
+{}
+
+/// Where nothing is held the runs of a segment are one range at most: from the front or its start up to its end or the cutoff.
+#[tactic(auto, using(crate::proofs::FastRuns::fast_runs))]
+pub fn a_fast_run_is_a_range()
+    ensures { (front : ℕ) (flow : List Placed) (cutoff : Option ℕ) (at : ℕ) (start : ℤ) (bytes : List ℕ)
+        → map range_of (runs (record { front = front; held = []; flow = flow }) cutoff (placed_from at start bytes)) ≡ between (max front at) (cut_at cutoff (at + length bytes)) }
+{}
+
+/// One entry more is one step more: of a conversation's history, and of a core's book.
+pub fn histories_grow_by_an_entry()
+    ensures history { (terms : Terms) (c : Convo) (acts : List Act) (act : Act) → convo_after terms c (acts ++ act ∷ []) ≡ after terms (convo_after terms c acts) act }
+    ensures book { (terms : Terms) (core : Core) (lines : List Line) (line : Line) → core_at terms core (lines ++ line ∷ []) ≡ core_after terms (core_at terms core lines) line }
 {}
