@@ -227,6 +227,10 @@ fn real_files_and_folders(rt: HostRuntime) {
     assert_eq!(rt; write_once(&mut shelf, "written.txt", b"hello"), Ok(()));
     assert_eq!(rt; read_once(&mut shelf, "written.txt", &mut into), Ok(5));
     assert_eq!(rt; &into[..5], b"hello".as_slice());
+    // A file of that name is emptied first.
+    assert_eq!(rt; write_once(&mut shelf, "written.txt", b"hi"), Ok(()));
+    assert_eq!(rt; read_once(&mut shelf, "written.txt", &mut into), Ok(2));
+    assert_eq!(rt; &into[..2], b"hi".as_slice());
     assert_eq!(rt;
         read_once(&mut shelf, "not_there.txt", &mut into),
         Err(WorldFault::Failed)
