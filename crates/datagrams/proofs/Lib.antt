@@ -1,0 +1,21 @@
+mod FlowLemmas
+mod DirectionSteps
+mod TalkSteps
+mod TableLemmas
+mod CoreSteps
+mod SumLemmas
+mod TallySteps
+mod TallyReport
+mod SumBounds
+mod AssembleLemmas
+mod SameHistory
+mod LinesGrow
+mod Replayed
+mod ReplaySteps
+mod ServedLemmas
+mod DatagramSteps
+mod HeldCharges
+mod AnswerSteps
+mod WholeRun
+mod Standing
+pub mod PlaceLemmas

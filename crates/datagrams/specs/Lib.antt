@@ -1,0 +1,12 @@
+pub mod Flow
+pub mod Talk
+pub mod Table
+pub mod Steps
+pub mod Released
+pub mod Sums
+pub mod Assembled
+pub mod Held
+pub mod Replay
+pub mod Laws
+pub mod Entered
+pub mod Rows
