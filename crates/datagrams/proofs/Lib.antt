@@ -19,3 +19,4 @@ mod AnswerSteps
 mod WholeRun
 mod Standing
 pub mod PlaceLemmas
+mod EnterLemmas

@@ -10,3 +10,4 @@ pub mod Replay
 pub mod Laws
 pub mod Entered
 pub mod Rows
+pub mod State

@@ -6,27 +6,39 @@
 mod asked;
 mod conversation;
 mod conversations;
+mod counting;
+mod end_half;
+mod enter_half;
 mod entered;
+mod event;
 mod half_stream;
+mod holding;
 pub mod laws;
 mod lines;
 mod memory;
 mod put;
 mod release;
+mod replay;
 mod running_sums;
 mod served;
+mod untold;
 
 pub use conversation::Conversation;
 pub use conversations::Conversations;
 pub use entered::Entered;
+pub use event::Event;
 pub use half_stream::HalfStream;
 pub use memory::Memory;
 pub use release::release_chunk;
+pub use replay::Replay;
 pub use running_sums::RunningSums;
 pub use served::Served;
+pub use untold::Untold;
 
 #[cfg(test)]
 mod half_stream_tests;
+#[cfg(test)]
+mod replay_tests;
 #[cfg(test)]
 mod served_tests;
 #[cfg(test)]
