@@ -1,4 +1,6 @@
 pub mod CaptureLemmas
+pub mod FedLemmas
 pub mod PlaceLemmas
 pub mod RecordLemmas
 pub mod RunLemmas
+pub mod WrittenLemmas

@@ -20,6 +20,13 @@ link_at = 20
 abbrev pub major_version : ℕ
 major_version = 2
 
+-- the minor version, and the link type, of the captures that are written
+abbrev pub minor_version : ℕ
+minor_version = 4
+
+abbrev pub ethernet : ℕ
+ethernet = 1
+
 -- one more than the greatest number of the low 16 bits of the link type
 abbrev pub link_numbers : ℕ
 link_numbers = 65536

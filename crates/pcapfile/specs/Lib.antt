@@ -4,4 +4,6 @@ pub mod Capture
 pub mod State
 pub mod Reading
 pub mod Laws
+pub mod Fed
+pub mod Written
 pub mod Rows

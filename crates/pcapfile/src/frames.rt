@@ -61,6 +61,7 @@ impl Frames {
     ghost use Rattle.pcapfile.specs.Capture.{Ends};
     ghost use Rattle.pcapfile.specs.Reading.{place_at, Answers, IsOpen, IsRecord, end_of_tail};
     ghost use Rattle.pcapfile.specs.Laws.{opened, Feeds, Reads};
+    ghost use Rattle.pcapfile.specs.Fed.{IsFed, IsNext};
 
     /// Nothing has come yet. At most `most_frames` records and `most_bytes` bytes of the file are read.
     pub fn new(alloc: Global, head: FileHead, most_frames: u32, most_bytes: u64) -> Frames
@@ -78,12 +79,13 @@ impl Frames {
         }
     }
 
-    /// Appends to the stream, whose first byte is the one at offset 24 of the file. No memory is wanted where nothing is
-    /// appended.
+    /// Appends to the stream, whose first byte is the one at offset 24 of the file, in time that grows with the piece.
+    /// No memory is wanted where nothing is appended.
     pub fn feed(&mut self, piece: &[u8]) -> Result<(), Memory>
         ensures ok { OnOk result (self.new ≡ record self.old { rest = self.old.rest ++ piece.now }) }
         ensures err { OnErr result (self.new ≡ self.old) }
         ensures memory { OnErr result (0 < length piece.now) }
+        ensures fed { OnOk result (IsFed self.old piece.now self.new) }
         ensures run { OnOk result (Feeds self.old piece.now self.new) }
     {
         self.stream.extend_from_slice(piece)?;
@@ -96,6 +98,7 @@ impl Frames {
         ensures ok { IfOk result (λ next. Answers self.old next self.new) }
         ensures err { OnErr result (self.new ≡ self.old) }
         ensures memory { OnErr result (IsRecord (place_at self.old)) }
+        ensures given { IfOk result (λ next. IsNext self.old next self.new) }
         ensures run { IfOk result (λ next. Reads self.old next self.new) }
     {
         let next = self.read()?;

@@ -15,6 +15,7 @@ mod link;
 mod memory;
 mod next;
 mod number;
+mod put;
 pub mod rows;
 mod tail;
 #[cfg(test)]
@@ -29,4 +30,5 @@ pub use head_fault::HeadFault;
 pub use link::Link;
 pub use memory::Memory;
 pub use next::Next;
+pub use put::{put_frame, put_head};
 pub use tail::Tail;

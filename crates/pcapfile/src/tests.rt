@@ -1,4 +1,7 @@
-use crate::{FileHead, FrameBytes, FrameFault, Frames, HeadFault, Link, Memory, Next, Tail};
+use crate::{
+    FileHead, FrameBytes, FrameFault, Frames, HeadFault, Link, Memory, Next, Tail, put_frame,
+    put_head,
+};
 use std::alloc::{AllocError, Global};
 use std::test::Fail;
 
@@ -199,29 +202,111 @@ fn the_longest_record_is_read(rt: HostRuntime) -> Result<(), Fail> {
     Ok(())
 }
 
+/// A written capture of three records, and 23 bytes of a fourth one with 40 bytes.
+fn four_records(alloc: Global) -> Result<Vec<u8>, Memory> {
+    let mut file = Vec::new(alloc);
+    put_head(&mut file)?;
+    put_frame(&mut file, 1, 5, b"abc")?;
+    put_frame(&mut file, 2, 2_000_000, b"")?;
+    put_frame(&mut file, 3, 999_999, &[7; 40])?;
+    let end = file.len() + 23;
+    put_frame(&mut file, 4, 0, &[8; 40])?;
+    file.truncate(end);
+    Ok(file)
+}
+
 #[test]
 fn pieces_change_nothing(rt: HostRuntime) -> Result<(), Fail> {
     let alloc = rt.alloc();
-    let mut file = Vec::new(alloc);
-    file.extend_from_slice(&record(alloc, 1, 5, 3, 3)?)?;
-    file.extend_from_slice(&record(alloc, 2, 2_000_000, 0, 0)?)?;
-    file.extend_from_slice(&record(alloc, 3, 999_999, 40, 40)?)?;
-    file.extend_from_slice(&record(alloc, 4, 0, 40, 7)?)?;
+    let file = four_records(alloc)?;
+    assert_eq!(rt; file.len(), 138);
+    let body = &file[24..];
     let want = [
         (24, 1_000_005_000, 3),
         (43, 4_000_000_000, 0),
         (59, 3_999_999_000, 40),
     ];
-    for size in [1, 2, 19, 20, 200] {
+    for cut in 0..=body.len() {
         let mut frames = frames_with(alloc, false, MANY, LONG);
         let mut seen = Vec::new(alloc);
-        for piece in file.chunks(size) {
+        for piece in [&body[..cut], &body[cut..]] {
+            frames.feed(piece)?;
+            assert_eq!(rt; read_on(&mut frames, &mut seen)?, None);
+        }
+        assert_eq!(rt; seen.as_slice(), want.as_slice(), "cut at {cut}");
+        assert_eq!(rt; tail_of(frames)?, Some(Tail::Cut { bytes: 23 }));
+    }
+    for size in [1, 2, 19, 20] {
+        let mut frames = frames_with(alloc, false, MANY, LONG);
+        let mut seen = Vec::new(alloc);
+        for piece in body.chunks(size) {
             frames.feed(piece)?;
             assert_eq!(rt; read_on(&mut frames, &mut seen)?, None);
         }
         assert_eq!(rt; seen.as_slice(), want.as_slice(), "pieces of {size}");
         assert_eq!(rt; tail_of(frames)?, Some(Tail::Cut { bytes: 23 }));
     }
+    Ok(())
+}
+
+#[test]
+fn two_records_are_the_most(rt: HostRuntime) -> Result<(), Fail> {
+    let alloc = rt.alloc();
+    let mut frames = frames_with(alloc, false, 2, LONG);
+    let mut seen = Vec::new(alloc);
+    let two = record(alloc, 1, 0, 3, 3)?;
+    frames.feed(&two)?;
+    frames.feed(&two)?;
+    frames.feed(b"a")?;
+    assert_eq!(rt; read_on(&mut frames, &mut seen)?, Some(FrameFault::TooLong));
+    let want = [(24, 1_000_000_000, 3), (43, 1_000_000_000, 3)];
+    assert_eq!(rt; seen.as_slice(), want.as_slice());
+    Ok(())
+}
+
+/// A big-endian capture with nanoseconds: one frame of Ethernet with a datagram of 2 bytes.
+const ONE_DATAGRAM: [u8; 84] = [
+    0xa1, 0xb2, 0x3c, 0x4d, 0, 2, 0, 4, 0, 0, 0, 0, 0, 0, 0, 0, 0, 4, 0, 0, 0, 0, 0, 1, // file
+    0, 0, 0, 1, 0, 0, 0, 5, 0, 0, 0, 0x2c, 0, 0, 0, 0x2c, // record
+    2, 0, 0, 0, 0, 2, 2, 0, 0, 0, 0, 1, 8, 0, // Ethernet
+    0x45, 0, 0, 0x1e, 0, 0, 0, 0, 0x40, 0x11, 0, 0, 10, 0, 0, 1, 10, 0, 0, 2, // IPv4
+    0x13, 0x88, 0, 0x35, 0, 0x0a, 0, 0, 0x68, 0x69, // UDP
+];
+
+#[test]
+fn a_big_endian_capture_with_nanoseconds_is_read(rt: HostRuntime) -> Result<(), Fail> {
+    let alloc = rt.alloc();
+    assert_eq!(rt;
+        FileHead::read(&ONE_DATAGRAM),
+        head(true, true, Link::Ethernet)
+    );
+    let big = FileHead {
+        big: true,
+        nanos: true,
+        link: Link::Ethernet,
+    };
+    let mut frames = Frames::new(alloc, big, MANY, LONG);
+    frames.feed(&ONE_DATAGRAM[24..])?;
+    let next = frames.next()?;
+    let Next::Whole(frame) = next else {
+        return Err("a record stands there")?;
+    };
+    assert_eq!(rt; (frame.at, frame.moment), (24, 1_000_000_005));
+    assert_eq!(rt; frame.bytes.as_slice(), &ONE_DATAGRAM[40..]);
+    assert_eq!(rt; tail_of(frames)?, Some(Tail::Whole));
+    Ok(())
+}
+
+#[test]
+fn captures_are_written(rt: HostRuntime) -> Result<(), Fail> {
+    let mut file = Vec::new(rt.alloc());
+    put_head(&mut file)?;
+    put_frame(&mut file, 0x0102_0304, 5, b"hi")?;
+    let want = [
+        0xd4, 0xc3, 0xb2, 0xa1, 2, 0, 4, 0, 0, 0, 0, 0, 0, 0, 0, 0, 0, 0, 4, 0, 1, 0, 0, 0, // file
+        4, 3, 2, 1, 5, 0, 0, 0, 2, 0, 0, 0, 2, 0, 0, 0, 0x68, 0x69, // record
+    ];
+    assert_eq!(rt; file.as_slice(), want.as_slice());
     Ok(())
 }
 
