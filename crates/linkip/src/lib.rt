@@ -1,0 +1,16 @@
+//! The headers of a link and of the internet protocol: what a captured frame carries, or which kind of skip it is.
+//! `network` answers what the definition in specs/ gives for every link and every frame; it lends the frame's bytes, copies none and takes no memory.
+//! Stands on pcapfile (the links), streamkey (addresses) and byteorder.
+#![tactic(auto)]
+
+mod fields;
+mod frames;
+mod ipv4;
+mod ipv6;
+mod net;
+pub mod rows;
+#[cfg(test)]
+mod tests;
+
+pub use frames::network;
+pub use net::Net;
