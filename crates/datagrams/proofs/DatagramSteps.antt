@@ -61,7 +61,7 @@ does_one t k c p v none st udp is e =
     (does_seg t k c p p.now (looks_by v) _ _ _ _ st udp
     (does_any t (flow_of (way_in k p) k) (of_way (way_in k p) c.directions) (segment_of (plain t) c p p.now) p.payload v (flow_stands k c (way_in k p) st) (is_datagram t k c p p.now st udp) is).1)
 
-same_id : (k : Talk) (way : Way) (f : Flow) → (with_flow way f k).id ≡ k.id
+pub same_id : (k : Talk) (way : Way) (f : Flow) → (with_flow way f k).id ≡ k.id
 same_id k Fore f = refl
 same_id k Back f = refl
 

@@ -1,5 +1,5 @@
 -- A datagram's entry keeps the numbers of its direction balanced, so each is one of 64 bits.
-use Rattle.std.specs.Prelude.{◌≡◌, refl, ℕ, suc, ◌+◌, ◌≤◌, ◌<◌, ◌^◌, Bool, true, false, nat_le, List, [], ◌∷◌, length, None}
+use Rattle.std.specs.Prelude.{◌≡◌, refl, ℕ, suc, ◌+◌, ◌≤◌, ◌<◌, ◌^◌, Bool, true, false, nat_le, List, [], ◌∷◌, length, None, Result, Ok, Err, OnOk, OnErr, IfOk}
 use Rattle.std.specs.List.{HoldsAt}
 use Rattle.std.proofs.Common.{◌∙◌, ap, subst, arith, get_or, set}
 use Rattle.std.proofs.lemmas.List.{get_or-set_same, set-set}
@@ -43,7 +43,7 @@ granted_part mark least budget f (b ∷ bytes) = by (nat_le (budget.used + suc (
 pub granted_at_most : (mark least : ℕ) (budget : BudgetParts) (f : Flow) (payload : List ℕ) → granted_by (entered mark least budget f payload).looks ≤ length payload
 granted_at_most = granted_part
 
-sent_behind : (mark least : ℕ) (budget : BudgetParts) (f : Flow) (payload : List ℕ) → (entered mark least budget f payload).flow.sent ≡ f.sent + length payload
+pub sent_behind : (mark least : ℕ) (budget : BudgetParts) (f : Flow) (payload : List ℕ) → (entered mark least budget f payload).flow.sent ≡ f.sent + length payload
 sent_behind mark least budget f [] = refl
 sent_behind mark least budget f (b ∷ bytes) = by (nat_le (budget.used + suc (length bytes)) mark)
   where
@@ -80,3 +80,24 @@ pub changed_twice : (old middle new : List Conversation) (i : ℕ) (f g : Conver
     → new ≡ set old i (g (f (get_or old i d)))
 changed_twice old middle new i f g d l h k =
     k d ∙ (λ j. set (h d j) i (g (changed_once old middle i f d l h j))) ∙ set-set old i (f (get_or old i d)) (g (f (get_or old i d)))
+
+-- What a call says where it is done, from what another one says there.
+pub on_ok : {T E A B : Type 0} (r : Result T E) → (A → B) → OnOk r A → OnOk r B
+on_ok (Ok x) f a = f a
+on_ok (Err e) f a = tt
+
+pub on_err : {T E A B : Type 0} (r : Result T E) → (A → B) → OnErr r A → OnErr r B
+on_err (Ok x) f a = tt
+on_err (Err e) f a = f a
+
+pub on_both : {T E A B C : Type 0} (r : Result T E) → (A → B → C) → OnOk r A → OnOk r B → OnOk r C
+on_both (Ok x) f a b = f a b
+on_both (Err e) f a b = tt
+
+pub if_both : {T E : Type 0} {A B C : T → Type 0} (r : Result T E) → ((x : T) → A x → B x → C x) → IfOk r A → IfOk r B → IfOk r C
+if_both (Ok x) f a b = f x a b
+if_both (Err e) f a b = tt
+
+pub if_ok : {T E : Type 0} {A B : T → Type 0} (r : Result T E) → ((x : T) → A x → B x) → IfOk r A → IfOk r B
+if_ok (Ok x) f a = f x a
+if_ok (Err e) f a = tt

@@ -19,7 +19,7 @@ use Rattle.datagrams.specs.Held.{weight_of, chunk_weight, talk_weight, table_wei
 use Rattle.datagrams.proofs.DatagramSteps.{last_events}
 use Rattle.datagrams.specs.Replay.{charges_in}
 
-total_append : {X : Type 0} (f : X → ℕ) (xs ys : List X) → total f (xs ++ ys) ≡ total f xs + total f ys
+pub total_append : {X : Type 0} (f : X → ℕ) (xs ys : List X) → total f (xs ++ ys) ≡ total f xs + total f ys
 total_append f [] ys = omega arith
 total_append f (x ∷ xs) ys = omega (arith, total_append f xs ys)
 

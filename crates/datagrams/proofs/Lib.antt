@@ -20,3 +20,10 @@ mod WholeRun
 mod Standing
 pub mod PlaceLemmas
 mod EnterLemmas
+mod StateSteps
+mod SoundLemmas
+mod RowLemmas
+mod PeakLemmas
+mod StandsSteps
+mod CourseLemmas
+mod WholeLemmas

@@ -252,3 +252,16 @@ numbers_stay alive (c ∷ cs) zero way f s d = ap (λ n. n ∷ map number_of (ro
     number_half Fore = refl
     number_half Back = refl
 numbers_stay alive (c ∷ cs) (suc i) way f s d = ap (λ ns. c.number ∷ ns) (numbers_stay alive cs i way f s d)
+
+-- and what is put back as it was leaves the table as it was
+pub put_same : (cs : List Conversation) (i : ℕ) (way : Way) (d : Conversation) → i < length cs → set cs i (with_half way (half_of way (get_or cs i d)) (sums_of way (get_or cs i d)) (get_or cs i d)) ≡ cs
+put_same cs i way d l = ap (set cs i) (same way (get_or cs i d)) ∙ set_same cs i l
+  where
+    same : (way : Way) (c : Conversation) → with_half way (half_of way c) (sums_of way c) c ≡ c
+    same Fore c = refl
+    same Back c = refl
+
+    set_same : (cs : List Conversation) (i : ℕ) → i < length cs → set cs i (get_or cs i d) ≡ cs
+    set_same [] i l = refl
+    set_same (c ∷ cs) zero l = refl
+    set_same (c ∷ cs) (suc i) l = ap (λ xs. c ∷ xs) (set_same cs i (omega arith))

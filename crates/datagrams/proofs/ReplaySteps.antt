@@ -122,7 +122,7 @@ in_turn_on limit [] ys stamp used middle mid_used last_stamp last_used x y = sub
 in_turn_on limit (step ∷ xs) ys stamp used middle mid_used last_stamp last_used x y =
     (x.0, in_turn_on limit xs ys (stamp_behind step stamp) (used_behind step used) middle mid_used last_stamp last_used x.1 y)
 
-steps_grow : (book : List CoreEntry) (entry : CoreEntry) → book_steps (book ++ entry ∷ []) ≡ book_steps book ++ entry_steps entry
+pub steps_grow : (book : List CoreEntry) (entry : CoreEntry) → book_steps (book ++ entry ∷ []) ≡ book_steps book ++ entry_steps entry
 steps_grow [] entry = append-nil (entry_steps entry)
 steps_grow (e ∷ book) entry = ap (λ (l : List BudgetStep). entry_steps e ++ l) (steps_grow book entry) ∙ sym (append_assoc (entry_steps e) (book_steps book) (entry_steps entry))
 

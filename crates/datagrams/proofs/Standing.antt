@@ -1,5 +1,5 @@
 -- A replay under way: its entries, its budget, and what is held.
-use Rattle.std.specs.Prelude.{◌≡◌, refl, ⊤, ℕ, suc, ◌+◌, ◌≤◌, ◌<◌, true, false, List, [], ◌∷◌, ◌++◌, length, map, replicate, Option, None, Some}
+use Rattle.std.specs.Prelude.{◌≡◌, refl, ⊤, ℕ, suc, ◌+◌, ◌≤◌, ◌<◌, true, false, List, [], ◌∷◌, ◌++◌, length, replicate, Option, None, Some}
 use Rattle.std.proofs.Common.{◌∙◌, ap, arith}
 use Rattle.evring.specs.Advice.{no_advice}
 use Rattle.evring.specs.declared.reason.Reason.TheVariants.{Finish}
@@ -7,7 +7,7 @@ use Rattle.evring.specs.declared.way.Way.{Way}
 use Rattle.histbook.specs.declared.core_entry.CoreEntry.{CoreEntry}
 use Rattle.histbook.specs.declared.journal.Journal.{Journal}
 use Rattle.histbook.specs.declared.entry.Entry.TheVariants as E
-use Rattle.histbook.specs.InTurn.{IsInTurn, book_steps, entry_steps}
+use Rattle.histbook.specs.InTurn.{IsInTurn, entry_steps}
 use Rattle.streamdefs.specs.Lists.{Each}
 use Rattle.streamdefs.specs.Packet.{Packet, is_tcp, same_key}
 use Rattle.streamdefs.specs.Terms.{Terms}
@@ -18,7 +18,7 @@ use Rattle.streamdefs.specs.Core.{Told}
 use Rattle.streamdefs.specs.Lawful.{Lawful, FinishesInOrder}
 use Rattle.streamdefs.specs.Order.{OneHistory}
 use Rattle.streamdefs.specs.WorkerText.{worker_text}
-use Rattle.streamdefs.specs.Case.{packet_of, line_of, run_of}
+use Rattle.streamdefs.specs.Case.{packet_of, run_of}
 use Rattle.datagrams.specs.Flow.{OpenChunk, plain, joined, size}
 use Rattle.datagrams.specs.Talk.{Talk, delivered, ended}
 use Rattle.datagrams.specs.Table.{Kept, HasNoId, HasNoKey, told_of}
@@ -31,15 +31,8 @@ use Rattle.datagrams.proofs.DatagramSteps.{datagram_kept, datagram_new, conversa
 use Rattle.datagrams.proofs.AnswerSteps.{chunk_answered, other_answered}
 use Rattle.datagrams.proofs.HeldCharges.{held_kept, held_new, held_over, held_served, event_of_chunk, bytes_are, none_late_later, not_late}
 use Rattle.datagrams.proofs.WholeRun.{whole_run}
-use Rattle.datagrams.specs.Replay.{charges_in, silent, Replayed, seen_by}
-
--- The entries so far are a replay, done in turn up to a stamp and a used number; the used bytes are those that are held, and
--- no charge has a stamp of now or later.
-pub record Standing (t : Terms) (last first : ℕ) (packets done : List Packet) (book : List CoreEntry) (table : List Kept) (waiting : List Told) (finished : Option ℕ) (answered : ℕ) (text : List ℕ) (stamp used : ℕ) : Type 0 where
-  pub replayed : Replayed (plain t) last first done (map (line_of packets) book) table waiting finished answered text
-  pub turn : IsInTurn t.marks.limit (book_steps book) 0 0 stamp used
-  pub used_is : held bytes_of table waiting ≡ used
-  pub earlier : held (late_for stamp) table waiting ≡ 0
+use Rattle.datagrams.specs.Replay.{charges_in, silent, seen_by}
+use Rattle.datagrams.specs.Stands.{Standing}
 
 pub standing_none : (t : Terms) (last first : ℕ) (packets : List Packet) → Standing t last first packets [] [] [] [] None 0 [] 0 0
 standing_none t last first packets = record { replayed = replayed_none (plain t) last first; turn = (refl, refl); used_is = refl; earlier = refl }

@@ -11,3 +11,6 @@ pub mod Laws
 pub mod Entered
 pub mod Rows
 pub mod State
+pub mod Sound
+pub mod Stands
+pub mod Capture

@@ -1,5 +1,5 @@
 -- A replay of datagrams on one core, so far, and what each step makes of it.
-use Rattle.std.specs.Prelude.{◌≡◌, ⊤, ℕ, suc, ◌+◌, ◌≤◌, ◌<◌, ◌^◌, cond, List, [], ◌∷◌, ◌++◌, length, map, set, None}
+use Rattle.std.specs.Prelude.{◌≡◌, ⊤, ℕ, zero, suc, ◌+◌, ◌≤◌, ◌<◌, ◌^◌, cond, max, List, [], ◌∷◌, ◌++◌, length, map, set, None}
 use Rattle.evring.specs.Advice.{no_advice}
 use Rattle.evring.specs.declared.reason.Reason.{Reason}
 use Rattle.evring.specs.declared.reason.Reason.TheVariants.{Finish}
@@ -15,6 +15,7 @@ use Rattle.streamkey.specs.declared.key.Key.{Key}
 use Rattle.streamkey.specs.declared.toward.Toward.{Toward}
 use Rattle.streamdefs.specs.Handler.{new_line, end_line}
 use Rattle.streamdefs.specs.Packet.{same_toward}
+use Rattle.streamdefs.specs.Totals.{refused}
 use Rattle.streamdefs.specs.Convo.{Event}
 use Rattle.streamdefs.specs.Convo.Event.{New, Ended}
 use Rattle.streamdefs.specs.Core.{Told}
@@ -79,7 +80,7 @@ IsInUse used (Handed way o) = size o.parts ≤ used
 IsInUse used _ = ⊤
 
 -- the mark of the asks and the size of a full chunk; the budget, the conversations in the order in which they opened, the events that wait, the text of those that were told,
--- the core's book, and the number of answers in it
+-- the core's book, the number of answers in it, how many bytes came, the most that were in use, and how many looks were refused
 pub record State : Type 0 where
   pub mark : ℕ
   pub least : ℕ
@@ -89,10 +90,13 @@ pub record State : Type 0 where
   pub text : List ℕ
   pub book : List CoreEntry
   pub answered : ℕ
+  pub came : ℕ
+  pub peak : ℕ
+  pub refused : ℕ
 
 -- before any packet
 abbrev pub fresh : (limit mark least : ℕ) → State
-fresh limit mark least = record { mark = mark; least = least; budget = record { limit = limit; stamp = 0; used = 0 }; table = []; waiting = []; text = []; book = []; answered = 0 }
+fresh limit mark least = record { mark = mark; least = least; budget = record { limit = limit; stamp = 0; used = 0 }; table = []; waiting = []; text = []; book = []; answered = 0; came = 0; peak = 0; refused = 0 }
 
 -- with the handler of that event told, and its answer; these events then wait
 abbrev pub with_answer : State → Untold → List Untold → State
@@ -105,6 +109,9 @@ with_answer s u rest = record {
   text = s.text ++ line_for u.conv u.event;
   book = s.book ++ record { conv = u.conv; entry = E.Answer (suc s.answered) no_advice (frees_for s.budget.stamp u.event) } ∷ [];
   answered = suc s.answered;
+  came = s.came;
+  peak = s.peak;
+  refused = s.refused;
 }
 
 -- with the answer to the first event that waits
@@ -115,13 +122,10 @@ answered_first s = by s.waiting
     by [] = s
     by (u ∷ rest) = with_answer s u rest
 
--- the first event's bytes are in use
-abbrev pub CanAnswer : State → Type 0
-CanAnswer s = by s.waiting
-  where
-    by : List Untold → Type 0
-    by [] = ⊥
-    by (u ∷ rest) = IsInUse s.budget.used u.event
+-- with the answers to the first so many of them
+abbrev pub answered_many : ℕ → State → State
+answered_many zero s = s
+answered_many (suc n) s = answered_first (answered_many n s)
 
 -- the direction of a conversation's packets of that way
 abbrev pub way_at : Conversation → Toward → Way
@@ -158,6 +162,9 @@ with_datagram_at s place conv c way number now payload = by (entered s.mark s.le
       text = s.text;
       book = s.book ++ record { conv = conv; entry = E.Seg number now e.looks [] } ∷ [];
       answered = s.answered;
+      came = s.came + length payload;
+      peak = max s.peak e.budget.used;
+      refused = s.refused + refused e.looks;
     }
 
 -- a direction of a conversation without its open chunk, which is counted
@@ -175,6 +182,9 @@ with_end_at last s place conv c = record {
   text = s.text;
   book = s.book ++ record { conv = conv; entry = E.End last Finish [] [] } ∷ [];
   answered = s.answered;
+  came = s.came;
+  peak = s.peak;
+  refused = s.refused;
 }
 
 -- a conversation's numbers are those of what is kept of it

@@ -1,4 +1,4 @@
-ghost use Rattle.std.specs.Prelude.{◌≡◌, ◌≤◌, IfSome, IfNone};
+ghost use Rattle.std.specs.Prelude.{◌≡◌, ◌<◌, ◌≤◌, ◌^◌, IfSome, IfNone};
 ghost use Rattle.datagrams.specs.Entered.{budget_behind, look_for, IsChargeOf};
 
 use histbook::LookEntry;
@@ -28,6 +28,7 @@ pub(crate) fn ask(budget: &mut PlainBudget, asked: u32, mark: u32) -> Option<Ask
     ensures look { IfSome result (λ a. a.look ≡ look_for mark budget.old asked) }
     ensures charge { IfSome result (λ a. IsChargeOf a.look a.charge) }
     ensures budget { IfSome result (λ a. budget.new ≡ budget_behind a.look budget.old) }
+    ensures stamp { IfSome result (λ _. budget.old.stamp < 2 ^ 31) }
     ensures none { IfNone result (budget.new ≡ budget.old) }
 {
     match budget.reserve(asked, mark) {

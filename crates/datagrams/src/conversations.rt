@@ -75,6 +75,12 @@ impl Conversations {
         &self.list
     }
 
+    pub fn into_list(self) -> Vec<Conversation>
+        ensures { result.items ≡ self }
+    {
+        self.list
+    }
+
     /// One direction of the conversation at a place, with its numbers. What is left there is as before any datagram, until
     /// `put_half` puts it back.
     pub fn take_half(&mut self, place: usize, way: Way) -> (HalfStream, RunningSums)

@@ -3,6 +3,7 @@ ghost use Rattle.std.specs.Prelude.{◌≡◌, ◌≤◌, ◌++◌, length, opti
 ghost use Rattle.datagrams.specs.Flow.{chunk_list, open_in};
 ghost use Rattle.datagrams.specs.Sums.{with_chunks, with_datagram};
 ghost use Rattle.datagrams.specs.State.{granted_by, AreShort};
+ghost use Rattle.streamdefs.specs.Totals.{refused};
 
 use crate::{Entered, RunningSums};
 use chunkpart::Chunk;
@@ -21,6 +22,17 @@ pub(crate) fn granted_bytes(look: &Option<LookEntry>) -> u64
                 0
             }
         }
+        None => 0,
+    }
+}
+
+/// How many looks were refused.
+pub(crate) fn refusals_in(look: &Option<LookEntry>) -> u64
+    ensures refused { result ≡ refused (option_to_list look.now) }
+    ensures one { result ≤ 1 }
+{
+    match look {
+        Some(look) => u64::from(!look.granted),
         None => 0,
     }
 }

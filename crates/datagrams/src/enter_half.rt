@@ -1,5 +1,5 @@
 // A datagram's entry into one direction of a conversation.
-ghost use Rattle.std.specs.Prelude.{◌≡◌, ◌+◌, ◌<◌, ◌≤◌, ◌^◌, ◌++◌, length, slice_set, IfOk, OnOk, option_to_list};
+ghost use Rattle.std.specs.Prelude.{◌≡◌, ◌+◌, ◌<◌, ◌≤◌, ◌^◌, ◌++◌, length, slice_set, IfOk, OnOk, OnErr, option_to_list};
 ghost use Rattle.std.specs.List.{HoldsAt};
 ghost use Rattle.datagrams.specs.Rows.{half_of, sums_of, with_half};
 ghost use Rattle.datagrams.specs.Entered.{entered};
@@ -33,13 +33,17 @@ pub(crate) fn enter_half(
     ensures budget { OnOk result (budget.new ≡ (entered mark least budget.old half.old payload.now).budget) }
     ensures sums { OnOk result (sums.new ≡ with_chunks (with_datagram sums.old (length payload.now) (granted_by (entered mark least budget.old half.old payload.now).looks)) (entered mark least budget.old half.old payload.now).over) }
     ensures bare { IfOk result (λ e. HasNoCopy e.closed × HasNoCopy e.full) }
+    ensures stamp { OnOk result (0 < length payload.now → budget.old.stamp < 2 ^ 31) }
+    ensures err { OnErr result ((half.new ≡ half.old) × (sums.new ≡ sums.old)) }
+    ensures released { OnErr result (budget.new ≡ record budget.old { stamp = budget.new.stamp }) }
 {
     let entered = half.enter(alloc, budget, mark, least, payload)?;
     count_entered(sums, payload.len() as u64, &entered);
     Ok(entered)
 }
 
-/// Enters a datagram into a direction of the conversation at a place of the table.
+/// Enters a datagram into a direction of the conversation at a place of the table. At want of memory nothing changes but the
+/// budget's stamp.
 pub(crate) fn enter_place(
     alloc: Global,
     budget: &mut PlainBudget,
@@ -59,9 +63,12 @@ pub(crate) fn enter_place(
     ensures budget { OnOk result (HoldsAt (λ c. budget.new ≡ (entered mark least budget.old (half_of way c) payload.now).budget) table.old place) }
     ensures table { OnOk result (HoldsAt (λ c. table.new ≡ slice_set table.old place (conversation_with way (entered mark least budget.old (half_of way c) payload.now) (length payload.now) c)) table.old place) }
     ensures bare { IfOk result (λ e. HasNoCopy e.closed × HasNoCopy e.full) }
+    ensures stamp { OnOk result (0 < length payload.now → budget.old.stamp < 2 ^ 31) }
+    ensures err { OnErr result (table.new ≡ table.old) }
+    ensures released { OnErr result (budget.new ≡ record budget.old { stamp = budget.new.stamp }) }
 {
     let (mut half, mut sums) = table.take_half(place, way);
-    let entered = enter_half(alloc, budget, mark, least, &mut half, &mut sums, payload)?;
+    let entered = enter_half(alloc, budget, mark, least, &mut half, &mut sums, payload);
     table.put_half(place, way, half, sums);
-    Ok(entered)
+    entered
 }

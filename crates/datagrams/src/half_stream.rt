@@ -180,6 +180,7 @@ impl HalfStream {
         ensures flow { OnOk result (self.new ≡ (entered mark least budget.old self.old payload.now).flow) }
         ensures budget { OnOk result (budget.new ≡ (entered mark least budget.old self.old payload.now).budget) }
         ensures bare { IfOk result (λ e. HasNoCopy e.closed × HasNoCopy e.full) }
+        ensures stamp { OnOk result (0 < length payload.now → budget.old.stamp < 2 ^ 31) }
         ensures err { OnErr result (self.new ≡ self.old) }
         ensures released { OnErr result (budget.new ≡ record budget.old { stamp = budget.new.stamp }) }
         ensures limit { budget.new.limit ≡ budget.old.limit }

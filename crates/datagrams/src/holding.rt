@@ -1,5 +1,6 @@
 // Events and entries that are put behind others.
-ghost use Rattle.std.specs.Prelude.{◌≡◌, ◌++◌, ◌∷◌, [], IfOk, OnOk, option_to_list};
+ghost use Rattle.std.specs.Prelude.{◌≡◌, ◌+◌, ◌<◌, ◌≤◌, ◌++◌, ◌∷◌, [], IfOk, OnOk, OnErr, option_to_list};
+ghost use Rattle.std.specs.VecDeque.{deque_len, deque_capacity};
 ghost use Rattle.histbook.specs.declared.entry.Entry.TheVariants.{Seg as SegEntry, End as EndEntry};
 ghost use Rattle.evring.specs.declared.reason.Reason.TheVariants.{Finish};
 ghost use Rattle.datagrams.specs.Flow.{chunk_list, open_in, HasNoCopy};
@@ -15,36 +16,25 @@ use prio_budget::PlainCharge;
 use std::alloc::Global;
 use std::collections::VecDeque;
 
-/// Puts a chunk that is handed over behind the events that wait, where there is one.
+/// Puts a chunk that is handed over behind the events that wait, where there is one. There is room for it.
 pub(crate) fn hold(
     waiting: &mut VecDeque<Untold>,
     conv: u32,
     way: Way,
     chunk: Option<Chunk<PlainCharge>>,
-) -> Result<(), Memory>
-    requires { HasNoCopy chunk }
-    ensures { OnOk result (waiting.new.items ≡ waiting.old.items ++ handed conv way (chunk_list (open_in chunk))) }
+)
+    requires bare { HasNoCopy chunk }
+    requires room { deque_len waiting.old < deque_capacity waiting.old }
+    ensures items { waiting.new.items ≡ waiting.old.items ++ handed conv way (chunk_list (open_in chunk)) }
+    ensures len { deque_len waiting.new ≤ deque_len waiting.old + 1 }
+    ensures capacity { deque_capacity waiting.new ≡ deque_capacity waiting.old }
 {
     if let Some(chunk) = chunk {
-        waiting.push_back(Untold::new(conv, Event::Handed { way, chunk }))?;
+        match waiting.push_back(Untold::new(conv, Event::Handed { way, chunk })) {
+            Ok(()) => {}
+            Err(_) => unreachable!(),
+        }
     }
-    Ok(())
-}
-
-/// Puts both chunks behind the events that wait.
-pub(crate) fn hold_both(
-    waiting: &mut VecDeque<Untold>,
-    conv: u32,
-    way: Way,
-    first: Option<Chunk<PlainCharge>>,
-    second: Option<Chunk<PlainCharge>>,
-) -> Result<(), Memory>
-    requires first { HasNoCopy first }
-    requires second { HasNoCopy second }
-    ensures { OnOk result (waiting.new.items ≡ waiting.old.items ++ handed conv way (chunk_list (open_in first) ++ chunk_list (open_in second))) }
-{
-    hold(waiting, conv, way, first)?;
-    hold(waiting, conv, way, second)
 }
 
 fn looks_of(alloc: Global, look: Option<LookEntry>) -> Result<Looks, Memory>
@@ -66,7 +56,8 @@ pub(crate) fn book_datagram(
     now: u64,
     look: Option<LookEntry>,
 ) -> Result<(), Memory>
-    ensures { OnOk result (book.new.items ≡ book.old.items ++ record { conv = conv; entry = SegEntry packet now (option_to_list look) [] } ∷ []) }
+    ensures ok { OnOk result (book.new.items ≡ book.old.items ++ record { conv = conv; entry = SegEntry packet now (option_to_list look) [] } ∷ []) }
+    ensures err { OnErr result (book.new.items ≡ book.old.items) }
 {
     let looks = looks_of(alloc, look)?;
     let frees = Frees::of(Vec::new(alloc));
@@ -89,7 +80,8 @@ pub(crate) fn book_end(
     conv: u32,
     at: u64,
 ) -> Result<(), Memory>
-    ensures { OnOk result (book.new.items ≡ book.old.items ++ record { conv = conv; entry = EndEntry at Finish [] [] } ∷ []) }
+    ensures ok { OnOk result (book.new.items ≡ book.old.items ++ record { conv = conv; entry = EndEntry at Finish [] [] } ∷ []) }
+    ensures err { OnErr result (book.new.items ≡ book.old.items) }
 {
     let looks = Looks::of(Vec::new(alloc));
     let frees = Frees::of(Vec::new(alloc));

@@ -4,9 +4,12 @@
 #![tactic(auto)]
 
 mod asked;
+mod closing;
 mod conversation;
 mod conversations;
 mod counting;
+mod course;
+mod datagram;
 mod end_half;
 mod enter_half;
 mod entered;
@@ -15,6 +18,7 @@ mod half_stream;
 mod holding;
 pub mod laws;
 mod lines;
+mod made;
 mod memory;
 mod put;
 mod release;
@@ -22,18 +26,24 @@ mod replay;
 mod running_sums;
 mod served;
 mod untold;
+mod whole;
+mod whole_replay;
 
 pub use conversation::Conversation;
 pub use conversations::Conversations;
+pub use datagram::Datagram;
 pub use entered::Entered;
 pub use event::Event;
 pub use half_stream::HalfStream;
+pub use made::Made;
 pub use memory::Memory;
 pub use release::release_chunk;
 pub use replay::Replay;
 pub use running_sums::RunningSums;
 pub use served::Served;
 pub use untold::Untold;
+pub use whole::replay_all;
+pub use whole_replay::WholeReplay;
 
 #[cfg(test)]
 mod half_stream_tests;

@@ -2,12 +2,14 @@
 ghost use Rattle.std.specs.Prelude.{◌≡◌, ◌+◌, ◌<◌, ◌≤◌, ◌^◌, ◌++◌, [], ◌∷◌, length, MatchOption, OnOk, IfOk};
 ghost use Rattle.datagrams.specs.State.{budget_after, frees_for, line_for, waits_of, IsBare, IsInUse};
 
+use crate::closing::{release_open, release_waiting};
+use crate::counting::refusals_in;
 use crate::end_half::end_place;
 use crate::enter_half::enter_place;
 use crate::event::Event;
-use crate::holding::{book_datagram, book_end, hold, hold_both};
+use crate::holding::{book_datagram, book_end, hold};
 use crate::untold::Untold;
-use crate::{Conversation, Conversations, Memory, Served};
+use crate::{Conversation, Conversations, Made, Memory, Served};
 use evring::{Advice, Frees, Reason, Way};
 use histbook::{CoreEntry, Entry};
 use prio_budget::{Marks, PlainBudget};
@@ -16,7 +18,8 @@ use std::collections::VecDeque;
 use std::marker::Model;
 use streamkey::{Key, Toward};
 
-/// A replay so far. After want of memory it ends.
+/// A replay so far. The bytes in use of its budget are those of the chunks that it holds, also behind want of memory, after
+/// which no entry is made any more.
 #[derive(Drop)]
 pub struct Replay {
     mark: u32,
@@ -27,17 +30,23 @@ pub struct Replay {
     served: Served,
     book: Vec<CoreEntry>,
     answered: u64,
+    came: u64,
+    peak: u32,
+    refused: u64,
 }
 
 impl Model for Replay {
     ghost use Rattle.datagrams.specs.State.{State};
+    ghost use Rattle.datagrams.specs.Sound.{IsSound};
 
     ghost Value = { State };
 
-    ghost view = { λ r. record { mark = r.mark; least = r.least; budget = r.budget; table = r.table; waiting = r.waiting.items; text = r.served; book = r.book.items; answered = r.answered } };
+    ghost view = { λ r. record { mark = r.mark; least = r.least; budget = r.budget; table = r.table; waiting = r.waiting.items; text = r.served; book = r.book.items; answered = r.answered; came = r.came; peak = r.peak; refused = r.refused } };
+
+    ghost invariant = { λ r. IsSound (record { mark = r.mark; least = r.least; budget = r.budget; table = r.table; waiting = r.waiting.items; text = r.served; book = r.book.items; answered = r.answered; came = r.came; peak = r.peak; refused = r.refused }) };
 }
 
-/// Tells an event's handler: its line, and what its answer releases.
+/// Tells an event's handler: its line, and what its answer releases, also at want of memory.
 fn tell(
     alloc: Global,
     served: &mut Served,
@@ -47,7 +56,7 @@ fn tell(
 ) -> Result<Frees, Memory>
     requires bare { IsBare event }
     requires held { IsInUse budget.old.used (waits_of event) }
-    ensures budget { OnOk result (budget.new ≡ budget_after (waits_of event) budget.old) }
+    ensures budget { budget.new ≡ budget_after (waits_of event) budget.old }
     ensures text { OnOk result (served.new ≡ served.old ++ line_for conv (waits_of event)) }
     ensures frees { IfOk result (λ frees. frees ≡ frees_for budget.old.stamp (waits_of event)) }
 {
@@ -60,14 +69,17 @@ fn tell(
 }
 
 impl Replay {
-    ghost use Rattle.datagrams.specs.State.{answered_first, fresh, way_at, with_conversation, with_datagram_at, with_end_at, CanAnswer, FitsInto, IsSettled};
+    ghost use Rattle.datagrams.specs.State.{answered_first, fresh, way_at, with_conversation, with_datagram_at, with_end_at};
     ghost use Rattle.std.specs.List.{HoldsAt};
     ghost use Rattle.datagrams.specs.Rows.{IsPlaced, NoneHasKey};
     ghost use Rattle.prio_budget.specs.Marks.{mark_of};
+    ghost use Rattle.datagrams.specs.Sound.{came_bytes, held_bytes, IsEven};
+    ghost use Rattle.streamdefs.specs.Lists.{Each, total};
 
     /// Before any packet.
     pub fn new(alloc: Global, marks: &Marks, chunk_size: u64) -> Replay
-        ensures { result ≡ fresh marks.now.limit (mark_of marks.now 0) chunk_size }
+        ensures state { result ≡ fresh marks.now.limit (mark_of marks.now 0) chunk_size }
+        ensures within { mark_of marks.now 0 ≤ marks.now.limit }
     {
         Replay {
             mark: marks.mark(0),
@@ -78,29 +90,31 @@ impl Replay {
             served: Served::new(alloc),
             book: Vec::new(alloc),
             answered: 0,
+            came: 0,
+            peak: 0,
+            refused: 0,
         }
     }
 
     /// Tells the handler of the first event that waits, and enters its answer.
     pub fn answer(&mut self, alloc: Global) -> Result<(), Memory>
-        requires held { CanAnswer self.old }
-        requires count { self.old.answered + 1 < 2 ^ 64 }
         ensures { OnOk result (self.new ≡ answered_first self.old) }
     {
+        self.book.reserve(1)?;
         let Some(untold) = self.waiting.pop_front() else {
             return Ok(());
         };
         let (conv, event) = untold.unpack();
         let frees = tell(alloc, &mut self.served, &mut self.budget, conv, event)?;
         self.answered += 1;
-        self.book.push(CoreEntry {
+        self.book.push_reserved(CoreEntry {
             conv,
             entry: Entry::Answer {
                 event: self.answered,
                 advice: Advice::none(),
                 frees,
             },
-        })?;
+        });
         Ok(())
     }
 
@@ -148,11 +162,12 @@ impl Replay {
         payload: &[u8],
     ) -> Result<(), Memory>
         requires place { place < length self.old.table }
-        requires mark { self.old.mark ≤ self.old.budget.limit }
         requires few { length payload.now < 2 ^ 32 }
-        requires fits { HoldsAt (FitsInto way (length payload.now)) self.old.table place }
-        ensures { OnOk result (HoldsAt (λ c. self.new ≡ with_datagram_at self.old place conv c way number now payload.now) self.old.table place) }
+        requires fits { self.old.came + length payload.now < 2 ^ 64 }
+        ensures state { OnOk result (HoldsAt (λ c. self.new ≡ with_datagram_at self.old place conv c way number now payload.now) self.old.table place) }
+        ensures stamp { OnOk result (0 < length payload.now → self.old.budget.stamp < 2 ^ 31) }
     {
+        self.waiting.reserve(2)?;
         let entered = enter_place(
             alloc,
             &mut self.budget,
@@ -163,8 +178,14 @@ impl Replay {
             way,
             payload,
         )?;
-        hold_both(&mut self.waiting, conv, way, entered.closed, entered.full)?;
-        book_datagram(alloc, &mut self.book, conv, number, now, entered.look)
+        self.came += payload.len() as u64;
+        self.peak = self.peak.max(self.budget.used());
+        hold(&mut self.waiting, conv, way, entered.closed);
+        hold(&mut self.waiting, conv, way, entered.full);
+        let refusals = refusals_in(&entered.look);
+        book_datagram(alloc, &mut self.book, conv, number, now, entered.look)?;
+        self.refused += refusals;
+        Ok(())
     }
 
     /// Ends the conversation at a place of the table, whose number is given, at the end of the capture.
@@ -175,17 +196,32 @@ impl Replay {
         conv: u32,
         last: u64,
     ) -> Result<(), Memory>
-        requires place { place < length self.old.table }
-        requires fits { HoldsAt IsSettled self.old.table place }
+        requires { place < length self.old.table }
         ensures { OnOk result (HoldsAt (λ c. self.new ≡ with_end_at last self.old place conv c) self.old.table place) }
     {
+        self.waiting.reserve(2)?;
         let (fore, back) = end_place(&mut self.table, place);
-        hold(&mut self.waiting, conv, Way::Fore, fore)?;
-        hold(&mut self.waiting, conv, Way::Back, back)?;
+        hold(&mut self.waiting, conv, Way::Fore, fore);
+        hold(&mut self.waiting, conv, Way::Back, back);
         let reason = Reason::Finish;
         self.waiting
             .push_back(Untold::new(conv, Event::Over { reason }))?;
         book_end(alloc, &mut self.book, conv, last)
+    }
+
+    /// How many conversations there are.
+    pub fn conversations(&self) -> usize
+        ensures { result ≡ length self.now.table }
+    {
+        self.table.len()
+    }
+
+    /// The number of the conversation at a place.
+    pub fn number_at(&self, place: usize) -> u32
+        requires { place < length self.now.table }
+        ensures { HoldsAt (λ c. result ≡ c.number) self.now.table place }
+    {
+        self.table.as_slice()[place].number
     }
 
     /// How many events wait.
@@ -195,11 +231,37 @@ impl Replay {
         self.waiting.len()
     }
 
-    /// The text of the events that were told, and the book.
-    pub fn into_parts(self) -> (Vec<u8>, Vec<CoreEntry>)
-        ensures text { result.0.items ≡ self.text }
-        ensures book { result.1.items ≡ self.book }
+    /// The budget, and what the replay made. The bytes of chunks that it holds stay in use.
+    pub fn into_parts(self) -> (PlainBudget, Made)
+        ensures budget { result.0 ≡ self.budget }
+        ensures held { held_bytes self.table self.waiting ≡ self.budget.used }
+        ensures even { Each IsEven self.table }
+        ensures came { total came_bytes self.table < 2 ^ 64 }
+        ensures text { result.1.text.items ≡ self.text }
+        ensures book { result.1.book.items ≡ self.book }
+        ensures table { result.1.table ≡ self.table }
+        ensures numbers { (result.1.answered ≡ self.answered) × (result.1.peak ≡ self.peak) × (result.1.refused ≡ self.refused) }
     {
-        (self.served.into_text(), self.book)
+        let made = Made {
+            text: self.served.into_text(),
+            book: self.book,
+            table: self.table,
+            answered: self.answered,
+            peak: self.peak,
+            refused: self.refused,
+        };
+        (self.budget, made)
+    }
+
+    /// Ends a replay that can't go on, and releases all that it holds.
+    pub fn close(self, alloc: Global) -> PlainBudget
+        ensures { result.used ≡ 0 }
+    {
+        let mut budget = self.budget;
+        let mut waiting = self.waiting;
+        let mut list = self.table.into_list();
+        release_waiting(alloc, &mut budget, &mut waiting);
+        release_open(alloc, &mut budget, &mut list);
+        budget
     }
 }

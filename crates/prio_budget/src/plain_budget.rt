@@ -93,4 +93,11 @@ impl PlainBudget {
     {
         self.used
     }
+
+    /// The stamp that the next grant or release takes.
+    pub fn stamp(&self) -> u32
+        ensures { result ≡ self.now.stamp }
+    {
+        self.stamp
+    }
 }

@@ -122,6 +122,7 @@ fn a_release_takes_a_stamp(rt: HostRuntime) -> Result<(), Fail> {
         }
     );
     assert_eq!(rt; budget.used(), 0);
+    assert_eq!(rt; budget.stamp(), 4);
     let Answered::Past { look } = budget.reserve(1, 0) else {
         panic!(rt; "an ask above a mark of 0 is granted")
     };
