@@ -1,4 +1,4 @@
-use std::alloc::AllocError;
+use std::alloc::{AllocError, AllocFailed};
 use std::io;
 
 /// Why nothing was measured.
@@ -24,6 +24,12 @@ impl Fault {
 
 impl From<AllocError> for Fault {
     fn from(_: AllocError) -> Self {
+        Fault::Memory
+    }
+}
+
+impl<T: Drop> From<AllocFailed<T>> for Fault {
+    fn from(_: AllocFailed<T>) -> Self {
         Fault::Memory
     }
 }

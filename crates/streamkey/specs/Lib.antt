@@ -2,3 +2,5 @@ pub mod Address
 pub mod Order
 pub mod KeyParts
 pub mod Key
+pub mod Hash
+pub mod Rows

@@ -1,8 +1,9 @@
 //! What the definitions of an order and of a key mean, each as the contract of a function with an empty body.
-ghost use Rattle.std.specs.Prelude.{◌≡◌, ◌≢◌, true};
+ghost use Rattle.std.specs.Prelude.{◌≡◌, ◌≢◌, ◌%◌, true};
 ghost use Rattle.std.specs.Ordering.{ordering_reverse};
 ghost use Rattle.streamkey.specs.Order.{addr_order, end_order, key_order, proto_order};
 ghost use Rattle.streamkey.specs.Address.{HasItsBytes};
+ghost use Rattle.streamkey.specs.Hash.{core_number, hash_input, toeplitz_of, IsSymmetric};
 ghost use Rattle.streamkey.specs.Key.{key_of, opposite, source_of, target_of};
 ghost use Rattle.streamkey.specs.declared.toward.Toward.TheVariants.{Up};
 ghost use Rattle.std.specs.declared.cmp.Ordering.TheVariants.{Equal};
@@ -57,4 +58,15 @@ pub fn readings_give_the_key(key: &Key, toward: Toward)
 pub fn both_ways_give_one_key(proto: Proto, source: End, target: End)
     ensures key { (key_of proto target source).0 ≡ (key_of proto source target).0 }
     ensures way { source ≢ target → (key_of proto target source).1 ≡ opposite (key_of proto source target).1 }
+{}
+
+/// The hash of two ends and their ports is the same whichever end comes first, so both ways of a conversation have one
+/// core.
+pub fn both_ways(a: End, b: End)
+    ensures { IsSymmetric a b }
+{}
+
+/// The core of a packet's key is told by its source and its target, in this order, whatever its way.
+pub fn a_packet_tells_its_core(proto: Proto, source: End, target: End, cores: u16)
+    ensures { core_number (key_of proto source target).0 cores ≡ toeplitz_of (hash_input source target) % cores }
 {}

@@ -1,4 +1,5 @@
-use crate::{Addr, End, Key, Proto, Toward};
+use crate::{Addr, End, Key, Proto, Toward, core_of, toeplitz};
+use std::alloc::{AllocError, Global};
 use std::collections::BTreeMap;
 use std::test::Fail;
 
@@ -68,4 +69,79 @@ fn keys_are_keys_of_a_map(rt: HostRuntime) -> Result<(), Fail> {
     assert_eq!(rt; numbers.get(&same), Some(&1));
     assert_eq!(rt; numbers.get(&other), None);
     Ok(())
+}
+
+fn end(addr: Addr, port: u16) -> End {
+    End { addr, port }
+}
+
+fn put_addr(out: &mut Vec<u8>, addr: &Addr) -> Result<(), AllocError> {
+    match addr {
+        Addr::V4(bytes) => out.extend_from_slice(bytes),
+        Addr::V6(bytes) => out.extend_from_slice(bytes),
+    }
+}
+
+/// The addresses and then the ports of two ends, in network order.
+fn input_of(alloc: Global, a: &End, b: &End) -> Result<Vec<u8>, AllocError> {
+    let mut input = Vec::new(alloc);
+    put_addr(&mut input, &a.addr)?;
+    put_addr(&mut input, &b.addr)?;
+    input.extend_from_slice(&a.port.to_be_bytes())?;
+    input.extend_from_slice(&b.port.to_be_bytes())?;
+    Ok(input)
+}
+
+/// The hashes are those that bench/toeplitz.py works out bit by bit.
+#[test]
+fn both_ways_have_one_hash_and_one_core(rt: HostRuntime) -> Result<(), Fail> {
+    let alloc = rt.alloc();
+    let link_local = Addr::V6([
+        0xfe, 0x80, 0, 0, 0, 0, 0, 0, 0x12, 0x34, 0x56, 0x78, 0x9a, 0xbc, 0xde, 0xf0,
+    ]);
+    let global = Addr::V6([
+        0x20, 1, 0x0d, 0xb8, 0x85, 0xa3, 0, 0, 0, 0, 0x8a, 0x2e, 3, 0x70, 0x73, 0x34,
+    ]);
+    let second = Addr::V6([0x20, 1, 0x0d, 0xb8, 0, 0, 0, 0, 0, 0, 0, 0, 0, 0, 0, 2]);
+    let none = end(Addr::V4([0; 4]), 0);
+    let last = end(Addr::V4([255; 4]), 65_535);
+    let low = end(Addr::V4([0, 0, 0, 1]), 1);
+    // the ends, their hash, and the core of 2, 3, 4 and 16
+    let rows = [
+        (client(), server(), 0x07f3_07f3, [1, 2, 3, 3]),
+        (none, none, 0, [0, 0, 0, 0]),
+        (last, low, 0xffff_ffff, [1, 0, 3, 15]),
+        (newer(53), end(second, 40_000), 0xa19a_a19a, [0, 0, 2, 10]),
+        (
+            end(link_local, 443),
+            end(global, 50_123),
+            0x1dc0_1dc0,
+            [0, 1, 0, 0],
+        ),
+        (server(), newer(53), 0x9ed1_9ed1, [1, 2, 1, 1]),
+    ];
+    for (a, b, hash, cores) in rows {
+        assert_eq!(rt; toeplitz(&input_of(alloc, &a, &b)?), hash);
+        assert_eq!(rt; toeplitz(&input_of(alloc, &b, &a)?), hash);
+        let (key, _) = Key::of(Proto::Tcp, a, b);
+        let (same, _) = Key::of(Proto::Udp, b, a);
+        let found = [
+            core_of(&key, 2),
+            core_of(&key, 3),
+            core_of(&key, 4),
+            core_of(&key, 16),
+        ];
+        assert_eq!(rt; found, cores);
+        assert_eq!(rt; core_of(&same, 16), cores[3]);
+        assert_eq!(rt; core_of(&key, 1), 0);
+    }
+    Ok(())
+}
+
+#[test]
+fn bytes_of_any_number_are_hashed(rt: HostRuntime) {
+    assert_eq!(rt; toeplitz(b""), 0);
+    assert_eq!(rt; toeplitz(&[128]), 0x6d5a_6d5a);
+    assert_eq!(rt; toeplitz(&[0, 1]), 0x36ad_36ad);
+    assert_eq!(rt; toeplitz(b"abc"), 0x10a2_10a2);
 }
