@@ -1,5 +1,6 @@
 pub mod CaptureLemmas
 pub mod FedLemmas
+pub mod OnlyLemmas
 pub mod PlaceLemmas
 pub mod RecordLemmas
 pub mod RunLemmas

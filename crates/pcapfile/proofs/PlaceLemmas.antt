@@ -1,4 +1,4 @@
-use Rattle.std.proofs.Common.{◌≡◌, ℕ, ◌+◌, ◌*◌, ◌≤◌, ◌<◌, Bool, true, false, cond, ◌⊎◌, inl, inr, List, ◌++◌, length, take, drop, refl, ap, ◌∙◌, arith, nat_eq, nat_lt, nat_le, length-append, length-drop}
+use Rattle.std.proofs.Common.{◌≡◌, ℕ, ◌+◌, ◌*◌, ◌≤◌, ◌<◌, Bool, true, false, cond, ◌⊎◌, inl, inr, List, ◌++◌, length, take, drop, refl, ap, ◌∙◌, subst, arith, nat_eq, nat_lt, nat_le, length-append, length-drop}
 use Rattle.std.proofs.lemmas.Bool.Decides.{nat_tests}
 use Rattle.std.proofs.lemmas.List.{drop-append-le, take-append-le}
 use Rattle.byteorder.specs.Numbers.{big_from-append, little_from-append}
@@ -6,6 +6,7 @@ use Rattle.pcapfile.specs.declared.head.FileHead.{FileHead}
 use Rattle.pcapfile.specs.declared.frame.Frame.{Frame}
 use Rattle.pcapfile.specs.Format.{header_len, longest, len_at, fraction_at}
 use Rattle.pcapfile.specs.Head.{number}
+use Rattle.pcapfile.specs.Laws.{IsCut, IsTooBig, IsPastHeader, IsPastRecord}
 use Rattle.pcapfile.specs.Capture.{Limits, End, Whole, Cut, TooBig, TooLong, Place, Ends, Holds, place_of, record_at, len_of, moment_of, is_past}
 
 -- the record that a header begins
@@ -28,6 +29,9 @@ le_false a b h = grind (arith, nat_tests)
 
 pub lt_false : (a b : ℕ) → nat_lt a b ≡ false → b ≤ a
 lt_false a b h = grind (arith, nat_tests)
+
+lt_true : (a b : ℕ) → nat_lt a b ≡ true → a < b
+lt_true a b h = grind (arith, nat_tests)
 
 eq_true : (a b : ℕ) → nat_eq a b ≡ true → a ≡ b
 eq_true a b h = grind (arith, nat_tests)
@@ -136,26 +140,7 @@ place_of-holds-append head limits at count rest more f h =
     let found = place_of-holds head limits at count rest f h in
     place_of-record head limits at count (rest ++ more) (IsRecord-append head limits at count rest more found.0) ∙ ap Holds (made-append head limits at count rest more found.0 ∙ found.1)
 
--- why a place is too big, or too long
-pub record IsTooBig (head : FileHead) (limits : Limits) (at count : ℕ) (rest : List ℕ) : Type 0 where
-  pub within : count < limits.frames
-  pub begun : header_len ≤ length rest
-  pub inside : at + header_len ≤ limits.bytes
-  pub big : longest < len_of head rest
-
-pub record IsPastHeader (limits : Limits) (at : ℕ) (rest : List ℕ) : Type 0 where
-  pub more : 0 < length rest
-  pub past : limits.bytes < at + header_len
-  pub file : limits.bytes < at + length rest
-
-pub record IsPastRecord (head : FileHead) (limits : Limits) (at count : ℕ) (rest : List ℕ) : Type 0 where
-  pub within : count < limits.frames
-  pub begun : header_len ≤ length rest
-  pub inside : at + header_len ≤ limits.bytes
-  pub short : len_of head rest ≤ longest
-  pub past : limits.bytes < at + (header_len + len_of head rest)
-  pub file : limits.bytes < at + length rest
-
+-- where there is a reason for an end, the place has that end
 pub place_of-big : (head : FileHead) (limits : Limits) (at count : ℕ) (rest : List ℕ) → IsTooBig head limits at count rest
     → place_of head limits at count rest ≡ Ends (TooBig at (len_of head rest))
 unfolding place_of record_at
@@ -288,26 +273,78 @@ place_of-whole head limits at count rest h =
 cut_same : (m n : ℕ) → Cut m ≡ Cut n → m ≡ n
 cut_same m n h = cc
 
--- where a place is cut, what is left is said, and something is
-pub place_of-cut : (head : FileHead) (limits : Limits) (at count : ℕ) (rest : List ℕ) (n : ℕ) → place_of head limits at count rest ≡ Ends (Cut n) → (length rest ≡ n) × (0 < length rest)
+le_of_lt : (a b : ℕ) → a < b → a ≤ b
+le_of_lt a b h = omega arith
+
+-- the reason for a cut, with the length of what is left in place of its number
+cut_with : (head : FileHead) (limits : Limits) (at count : ℕ) (rest : List ℕ) (n : ℕ) → length rest ≡ n → 0 < length rest → count < limits.frames → at + length rest ≤ limits.bytes
+    → (length rest < header_len) ⊎ ((len_of head rest ≤ longest) × (length rest < header_len + len_of head rest)) → IsCut head limits at count rest n
+cut_with head limits at count rest n same some within inside why =
+    subst (λ (m : ℕ). IsCut head limits at count rest m) same (record { left = refl; some = some; partial = why; within = within; inside = inside })
+
+-- a test that is false, where a number is not past the most
+not_past : (most at len : ℕ) (rest : List ℕ) → length rest ≤ len → is_past most at len rest ≡ false → at + length rest ≤ most
+not_past most at len rest short h = grind (arith, nat_tests)
+
+-- where a place is cut, what is left is said, and why it is no record
+pub place_of-cut : (head : FileHead) (limits : Limits) (at count : ℕ) (rest : List ℕ) (n : ℕ) → place_of head limits at count rest ≡ Ends (Cut n) → IsCut head limits at count rest n
 unfolding place_of record_at
 place_of-cut head limits at count rest n h =
     let one = other (nat_eq (length rest) 0) Whole (Cut n) _ (λ q. cc) h in
     let left = not_empty (length rest) one.0 in
     let two = other (nat_le limits.frames count) TooLong (Cut n) _ (λ q. cc) one.1 in
+    let within = le_false limits.frames count two.0 in
     let three = other (is_past limits.bytes at header_len rest) TooLong (Cut n) _ (λ q. cc) two.1 in
     elim (ends (nat_lt (length rest) header_len) (Cut (length rest)) (Cut n) _ three.1) [
-      | inl header ↦ (cut_same (length rest) n header.1, left)
+      | inl header ↦
+          let same = cut_same (length rest) n header.1 in
+          let short = lt_true (length rest) header_len header.0 in
+          let inside = not_past limits.bytes at header_len rest (le_of_lt (length rest) header_len short) three.0 in
+          cut_with head limits at count rest n same left within inside (inl short)
       | inr begun ↦
           let five = other (nat_lt longest (len_of head rest)) (TooBig at (len_of head rest)) (Cut n) _ (λ q. cc) begun.1 in
           let six = other (is_past limits.bytes at (header_len + len_of head rest) rest) TooLong (Cut n) _ (λ q. cc) five.1 in
           elim (ends (nat_lt (length rest) (header_len + len_of head rest)) (Cut (length rest)) (Cut n) _ six.1) [
-            | inl body ↦ (cut_same (length rest) n body.1, left)
+            | inl body ↦
+                let same = cut_same (length rest) n body.1 in
+                let short = lt_true (length rest) (header_len + len_of head rest) body.0 in
+                let inside = not_past limits.bytes at (header_len + len_of head rest) rest (le_of_lt (length rest) (header_len + len_of head rest) short) six.0 in
+                cut_with head limits at count rest n same left within inside (inr (lt_false longest (len_of head rest) five.0, short))
             | inr whole ↦
                 let no : Holds (made head at rest) ≡ Ends (Cut n) = whole.1 in
                 absurd (cc)
           ]
     ]
+
+-- and the other way round
+cut_header : (head : FileHead) (limits : Limits) (at count : ℕ) (rest : List ℕ) → 0 < length rest → count < limits.frames → at + length rest ≤ limits.bytes → length rest < header_len
+    → place_of head limits at count rest ≡ Ends (Cut (length rest))
+unfolding place_of
+cut_header head limits at count rest some within inside short = grind (arith, nat_tests)
+
+cut_record : (head : FileHead) (limits : Limits) (at count : ℕ) (rest : List ℕ) → 0 < length rest → count < limits.frames → at + length rest ≤ limits.bytes → len_of head rest ≤ longest
+    → length rest < header_len + len_of head rest → place_of head limits at count rest ≡ Ends (Cut (length rest))
+unfolding place_of record_at
+cut_record head limits at count rest some within inside short long = grind (arith, nat_tests)
+
+pub place_of-partial : (head : FileHead) (limits : Limits) (at count : ℕ) (rest : List ℕ) (n : ℕ) → IsCut head limits at count rest n → place_of head limits at count rest ≡ Ends (Cut n)
+place_of-partial head limits at count rest n r =
+    let left : length rest ≡ n = r.left in
+    let same : Ends (Cut (length rest)) ≡ Ends (Cut n) = ap (λ (m : ℕ). Ends (Cut m)) left in
+    let some : 0 < n = r.some in
+    let inside : at + n ≤ limits.bytes = r.inside in
+    let some_left : 0 < length rest = omega arith in
+    let inside_left : at + length rest ≤ limits.bytes = omega arith in
+    let by_reason : (n < header_len) ⊎ ((len_of head rest ≤ longest) × (n < header_len + len_of head rest)) → place_of head limits at count rest ≡ Ends (Cut (length rest)) =
+    λ reason. elim reason [
+      | inl short ↦ cut_header head limits at count rest some_left r.within inside_left (omega arith)
+      | inr long ↦ cut_record head limits at count rest some_left r.within inside_left long.0 (omega (arith, long.1))
+    ] in
+    by_reason r.partial ∙ same
+
+pub place_of-nothing : (head : FileHead) (limits : Limits) (at count : ℕ) (rest : List ℕ) → length rest ≡ 0 → place_of head limits at count rest ≡ Ends Whole
+unfolding place_of
+place_of-nothing head limits at count rest h = grind (arith, nat_tests)
 
 -- a fault stays where more bytes come
 pub place_of-too_big-append : (head : FileHead) (limits : Limits) (at count : ℕ) (rest more : List ℕ) (a n : ℕ) → place_of head limits at count rest ≡ Ends (TooBig a n)

@@ -8,8 +8,8 @@ use Rattle.pcapfile.specs.declared.head_fault.HeadFault.{HeadFault}
 use Rattle.pcapfile.specs.Format.{head_len, header_len, longest}
 use Rattle.pcapfile.specs.Capture.{Limits, End, Whole, Cut, TooBig, TooLong, Place, Ends, Holds, place_of, len_of, moment_of, size_of, Records, behind, behind_head, records_from}
 use Rattle.pcapfile.specs.Head.{head_of}
-use Rattle.pcapfile.specs.Laws.{Stands, EachStands, EndsAt, Accounts, RecordsStand, CaptureAccounts}
-use Rattle.pcapfile.proofs.PlaceLemmas.{made, IsRecord, place_of-holds, place_of-whole, place_of-cut, place_of-too_big, place_of-too_long, IsPastHeader, IsPastRecord, lt_false}
+use Rattle.pcapfile.specs.Laws.{Stands, EachStands, IsPastHeader, IsPastRecord, EndsThere, Accounts, RecordsStand, CaptureAccounts}
+use Rattle.pcapfile.proofs.PlaceLemmas.{made, IsRecord, place_of-holds, place_of-whole, place_of-cut, place_of-too_big, place_of-too_long, place_of-nothing, place_of-partial, place_of-big, place_of-many, place_of-past_header, place_of-past_record, lt_false}
 
 -- a list with a member is not empty
 none : {X : Type 0} (earlier later : List X) (x : X) → [] ≡ earlier ++ x ∷ later → ⊥
@@ -99,49 +99,76 @@ module _ (head : FileHead) (limits : Limits) where
   records_from-stand (suc turns) at count file =
       stands_behind turns at count file (place_of head limits at count (drop at file)) refl (λ f. records_from-stand turns (at + size_of f) (count + 1) file)
 
-  -- two ends behind the same numbers of bytes and records are the same
-  ends_same : (a b c d f g : ℕ) (e : End) → a ≡ b → c ≡ d → f ≡ g → EndsAt limits a c f e → EndsAt limits b d g e
-  ends_same a b c d f g e h k l x =
-      subst (λ (n : ℕ). EndsAt limits b d n e) l (subst (λ (n : ℕ). EndsAt limits b n f e) k (subst (λ (n : ℕ). EndsAt limits n c f e) h x))
+  -- where a place has an end there is its reason
+  ends_there : (at count : ℕ) (rest : List ℕ) (e : End) → place_of head limits at count rest ≡ Ends e → EndsThere head limits at count rest e
+  ends_there at count rest Whole h = place_of-whole head limits at count rest h
+  ends_there at count rest (Cut n) h = place_of-cut head limits at count rest n h
+  ends_there at count rest (TooBig a n) h = place_of-too_big head limits at count rest a n h
+  ends_there at count rest TooLong h = place_of-too_long head limits at count rest h
 
-  -- where records end at once, the end accounts for what is left
-  ends_account : (at count : ℕ) (rest : List ℕ) (e : End) → place_of head limits at count rest ≡ Ends e → EndsAt limits (at + length rest) (count + 0) (at + 0) e
-  ends_account at count rest Whole h = omega (arith, place_of-whole head limits at count rest h)
-  ends_account at count rest (Cut n) h =
-      let found = place_of-cut head limits at count rest n h in
-      (omega (arith, found.0), omega (arith, found.0, found.1))
-  ends_account at count rest (TooBig a n) h =
-      let found = place_of-too_big head limits at count rest a n h in
-      let begun : header_len ≤ length rest = found.0.begun in
-      let big : longest < len_of head rest = found.0.big in
-      (omega (arith, found.1), omega arith, omega (arith, found.2))
-  ends_account at count rest TooLong h =
-      let found = place_of-too_long head limits at count rest h in
-      let left : 0 < length rest = found.0 in
-      (omega arith, why found.1) where
-        why : (limits.frames ≤ count) ⊎ (IsPastHeader limits at rest ⊎ IsPastRecord head limits at count rest) → (limits.frames ≤ count + 0) ⊎ (limits.bytes < at + length rest)
-        why (inl many) = inl (omega arith)
-        why (inr (inl r)) = inr r.file
-        why (inr (inr r)) = inr r.file
+  -- and where there is a reason, the place has that end
+  pub place_ends : (at count : ℕ) (rest : List ℕ) (e : End) → EndsThere head limits at count rest e → place_of head limits at count rest ≡ Ends e
+  place_ends at count rest Whole h = place_of-nothing head limits at count rest h
+  place_ends at count rest (Cut n) h = place_of-partial head limits at count rest n h
+  place_ends at count rest (TooBig a n) h =
+      place_of-big head limits at count rest h.0 ∙ ap (λ (x : ℕ). Ends (TooBig x (len_of head rest))) h.1 ∙ ap (λ (x : ℕ). Ends (TooBig a x)) h.2
+  place_ends at count rest TooLong h = by_reason h.1 where
+    by_reason : (limits.frames ≤ count) ⊎ (IsPastHeader limits at rest ⊎ IsPastRecord head limits at count rest) → place_of head limits at count rest ≡ Ends TooLong
+    by_reason (inl many) = place_of-many head limits at count rest h.0 many
+    by_reason (inr (inl r)) = place_of-past_header head limits at count rest r
+    by_reason (inr (inr r)) = place_of-past_record head limits at count rest r
 
-  accounts_behind : (turns at count : ℕ) (rest : List ℕ) (p : Place) → place_of head limits at count rest ≡ p
-      → ((f : Frame) → place_of head limits at count rest ≡ Holds f → Accounts limits ((at + size_of f) + length (drop (size_of f) rest)) (at + size_of f) (count + 1) (next_records turns at count rest f))
-      → Accounts limits (at + length rest) at count (behind p (next_records turns at count rest))
-  accounts_behind turns at count rest (Ends e) h ih = ends_account at count rest e h
-  accounts_behind turns at count rest (Holds f) h ih =
-      let fit = fits head limits at count rest f h in
-      let left = length-drop (size_of f) rest in
-      let later = next_records turns at count rest f in
-      ends_same _ _ _ _ _ _ later.end (omega arith) (omega arith) (omega (arith, sum_by-cons size_of f later.frames)) (ih f h)
+  -- a reason stays where its numbers are the same
+  same_reason : (file : List ℕ) (a b c d : ℕ) (e : End) → a ≡ b → c ≡ d → EndsThere head limits a c (drop a file) e → EndsThere head limits b d (drop b file) e
+  same_reason file a b c d e h k x =
+      subst (λ (n : ℕ). EndsThere head limits b n (drop b file) e) k (subst (λ (n : ℕ). EndsThere head limits n c (drop n file) e) h x)
 
-  pub records_from-account : (turns at count : ℕ) (rest : List ℕ) → length rest < turns → Accounts limits (at + length rest) at count (records_from turns head limits at count rest)
+  -- an end at once accounts for what is left
+  ends_account : (file : List ℕ) (at count : ℕ) (e : End) → at ≤ length file → EndsThere head limits at count (drop at file) e → Accounts head limits file at count [] e
+  ends_account file at count e fit h = record { taken = omega arith; why = same_reason file at (at + 0) count (count + 0) e (omega arith) (omega arith) h }
+
+  -- and the other way round
+  pub account_ends : (file : List ℕ) (at count : ℕ) (e : End) → Accounts head limits file at count [] e → EndsThere head limits at count (drop at file) e
+  account_ends file at count e h = same_reason file (at + 0) at (count + 0) count e (omega arith) (omega arith) h.why
+
+  -- what accounts behind a record accounts with it
+  one_more : (file : List ℕ) (at count : ℕ) (f : Frame) (fs : List Frame) (e : End) → Accounts head limits file (at + size_of f) (count + 1) fs e → Accounts head limits file at count (f ∷ fs) e
+  one_more file at count f fs e h =
+      let sum = sum_by-cons size_of f fs in
+      let taken : (at + size_of f) + sum_by size_of fs ≤ length file = h.taken in
+      let past : (at + size_of f) + sum_by size_of fs ≡ at + sum_by size_of (f ∷ fs) = omega arith in
+      let number : (count + 1) + length fs ≡ count + suc (length fs) = omega arith in
+      record { taken = omega arith; why = same_reason file _ _ _ _ e past number h.why }
+
+  -- and the other way round
+  pub one_fewer : (file : List ℕ) (at count : ℕ) (f : Frame) (fs : List Frame) (e : End) → Accounts head limits file at count (f ∷ fs) e → Accounts head limits file (at + size_of f) (count + 1) fs e
+  one_fewer file at count f fs e h =
+      let sum = sum_by-cons size_of f fs in
+      let taken : at + sum_by size_of (f ∷ fs) ≤ length file = h.taken in
+      let past : at + sum_by size_of (f ∷ fs) ≡ (at + size_of f) + sum_by size_of fs = omega arith in
+      let number : count + suc (length fs) ≡ (count + 1) + length fs = omega arith in
+      record { taken = omega arith; why = same_reason file _ _ _ _ e past number h.why }
+
+  accounts_behind : (turns at count : ℕ) (file : List ℕ) (p : Place) → at ≤ length file → place_of head limits at count (drop at file) ≡ p
+      → ((f : Frame) → place_of head limits at count (drop at file) ≡ Holds f → Accounts head limits file (at + size_of f) (count + 1) (next_records turns at count (drop at file) f).frames (next_records turns at count (drop at file) f).end)
+      → Accounts head limits file at count (behind p (next_records turns at count (drop at file))).frames (behind p (next_records turns at count (drop at file))).end
+  accounts_behind turns at count file (Ends e) fit h ih = ends_account file at count e fit (ends_there at count (drop at file) e h)
+  accounts_behind turns at count file (Holds f) fit h ih =
+      let later = next_records turns at count (drop at file) f in
+      one_more file at count f later.frames later.end (ih f h)
+
+  pub records_from-account : (turns at count : ℕ) (file : List ℕ) → at ≤ length file → length (drop at file) < turns
+      → Accounts head limits file at count (records_from turns head limits at count (drop at file)).frames (records_from turns head limits at count (drop at file)).end
   unfolding records_from next_records
-  records_from-account zero at count rest h = absurd (omega arith)
-  records_from-account (suc turns) at count rest h =
-      accounts_behind turns at count rest (place_of head limits at count rest) refl (λ f k.
-      let fit = fits head limits at count rest f k in
-      let left = length-drop (size_of f) rest in
-      records_from-account turns (at + size_of f) (count + 1) (drop (size_of f) rest) (omega arith))
+  records_from-account zero at count file fit h = absurd (omega arith)
+  records_from-account (suc turns) at count file fit h =
+      accounts_behind turns at count file (place_of head limits at count (drop at file)) fit refl (λ f k.
+      let size = fits head limits at count (drop at file) f k in
+      let left = length-drop at file in
+      let later = length-drop (at + size_of f) file in
+      let moved : drop (at + size_of f) file ≡ drop (size_of f) (drop at file) = sym (drop-drop (size_of f) at file) in
+      let P : List ℕ → Type 0 = λ r. Accounts head limits file (at + size_of f) (count + 1) (records_from turns head limits (at + size_of f) (count + 1) r).frames (records_from turns head limits (at + size_of f) (count + 1) r).end in
+      subst P moved (records_from-account turns (at + size_of f) (count + 1) file (omega arith) (omega arith)))
 
   same_behind : (turns others at count : ℕ) (rest : List ℕ) (p : Place) → place_of head limits at count rest ≡ p
       → ((f : Frame) → place_of head limits at count rest ≡ Holds f → next_records turns at count rest f ≡ next_records others at count rest f)
@@ -181,7 +208,7 @@ no_fault : (b : Bool) (e : HeadFault) (r : Result FileHead HeadFault) (head : Fi
 no_fault true e r head h = absurd (cc)
 no_fault false e r head h = refl
 
-head_of-long : (file : List ℕ) (head : FileHead) → head_of file ≡ Ok head → head_len ≤ length file
+pub head_of-long : (file : List ℕ) (head : FileHead) → head_of file ≡ Ok head → head_len ≤ length file
 unfolding head_of
 head_of-long file head h = lt_false (length file) head_len (no_fault (nat_lt (length file) head_len) _ _ head h)
 
@@ -195,6 +222,5 @@ capture_accounts limits file head records h =
     let found = captured limits file (head_of file) head records h in
     let long = head_of-long file head found.0 in
     let left = length-drop head_len file in
-    let all : head_len + length (drop head_len file) ≡ length file = omega arith in
-    let one = records_from-account head limits (suc (suc (length file))) head_len 0 (drop head_len file) (omega arith) in
-    subst (λ (n : ℕ). Accounts limits n head_len 0 records) all (subst (λ (r : Records). Accounts limits (head_len + length (drop head_len file)) head_len 0 r) found.1 one)
+    let one = records_from-account head limits (suc (suc (length file))) head_len 0 file long (omega arith) in
+    subst (λ (r : Records). Accounts head limits file head_len 0 r.frames r.end) found.1 one

@@ -37,21 +37,62 @@ abbrev pub RecordsStand : Limits → List ℕ → Type 0
 RecordsStand limits file =
     (head : FileHead) (records : Records) → capture_of limits file ≡ Ok (head, records) → EachStands head limits head_len 0 file records.frames
 
--- how a file with so many bytes ends behind so many records, the last of which ends at an offset
-abbrev pub EndsAt : Limits → (len count past : ℕ) → End → Type 0
-EndsAt limits len count past Whole = len ≡ past
-EndsAt limits len count past (Cut bytes) = (len ≡ past + bytes) × (0 < bytes)
-EndsAt limits len count past (TooBig at captured) = (at ≡ past) × (past + header_len ≤ len) × (longest < captured)
-EndsAt limits len count past TooLong = (past < len) × ((limits.frames ≤ count) ⊎ (limits.bytes < len))
+-- Why no record follows behind so many, where `at` is the offset at which the last one ends and `rest` are the bytes
+-- that the file has from there.
 
--- records and their end account for each byte of the file from an offset on, behind so many records
-abbrev pub Accounts : Limits → (len at count : ℕ) → Records → Type 0
-Accounts limits len at count records = EndsAt limits len (count + length records.frames) (at + sum_by size_of records.frames) records.end
+-- some bytes are left, and fewer than the record takes, within both limits
+pub record IsCut (head : FileHead) (limits : Limits) (at count : ℕ) (rest : List ℕ) (bytes : ℕ) : Type 0 where
+  pub left : length rest ≡ bytes
+  pub some : 0 < bytes
+  pub partial : (bytes < header_len) ⊎ ((len_of head rest ≤ longest) × (bytes < header_len + len_of head rest))
+  pub within : count < limits.frames
+  pub inside : at + bytes ≤ limits.bytes
+
+-- a header says that too many bytes were captured
+pub record IsTooBig (head : FileHead) (limits : Limits) (at count : ℕ) (rest : List ℕ) : Type 0 where
+  pub within : count < limits.frames
+  pub begun : header_len ≤ length rest
+  pub inside : at + header_len ≤ limits.bytes
+  pub big : longest < len_of head rest
+
+-- a header ends past the most bytes, and the file has a byte past them
+pub record IsPastHeader (limits : Limits) (at : ℕ) (rest : List ℕ) : Type 0 where
+  pub more : 0 < length rest
+  pub past : limits.bytes < at + header_len
+  pub file : limits.bytes < at + length rest
+
+-- a record ends past the most bytes, and the file has a byte past them
+pub record IsPastRecord (head : FileHead) (limits : Limits) (at count : ℕ) (rest : List ℕ) : Type 0 where
+  pub within : count < limits.frames
+  pub begun : header_len ≤ length rest
+  pub inside : at + header_len ≤ limits.bytes
+  pub short : len_of head rest ≤ longest
+  pub past : limits.bytes < at + (header_len + len_of head rest)
+  pub file : limits.bytes < at + length rest
+
+-- the reason for each end
+abbrev pub EndsThere : FileHead → Limits → (at count : ℕ) → List ℕ → End → Type 0
+EndsThere head limits at count rest Whole = length rest ≡ 0
+EndsThere head limits at count rest (Cut bytes) = IsCut head limits at count rest bytes
+EndsThere head limits at count rest (TooBig offset captured) = IsTooBig head limits at count rest × (at ≡ offset) × (len_of head rest ≡ captured)
+EndsThere head limits at count rest TooLong = (0 < length rest) × ((limits.frames ≤ count) ⊎ (IsPastHeader limits at rest ⊎ IsPastRecord head limits at count rest))
+
+-- records and their end account for each byte of the file from an offset on, behind so many records: the records take no
+-- more than there is, and the end is that of what they leave
+pub record Accounts (head : FileHead) (limits : Limits) (file : List ℕ) (at count : ℕ) (frames : List Frame) (end : End) : Type 0 where
+  pub taken : at + sum_by size_of frames ≤ length file
+  pub why : EndsThere head limits (at + sum_by size_of frames) (count + length frames) (drop (at + sum_by size_of frames) file) end
 
 -- the file header, the records and the end of a capture account for each byte of the file
 abbrev pub CaptureAccounts : Limits → List ℕ → Type 0
 CaptureAccounts limits file =
-    (head : FileHead) (records : Records) → capture_of limits file ≡ Ok (head, records) → Accounts limits (length file) head_len 0 records
+    (head : FileHead) (records : Records) → capture_of limits file ≡ Ok (head, records) → Accounts head limits file head_len 0 records.frames records.end
+
+-- and no others do: records that stand so, with an end that accounts for the rest, are those of the capture
+abbrev pub NoOthersDo : Limits → List ℕ → Type 0
+NoOthersDo limits file =
+    (head : FileHead) (frames : List Frame) (end : End) → head_of file ≡ Ok head → EachStands head limits head_len 0 file frames → Accounts head limits file head_len 0 frames end
+    → capture_of limits file ≡ Ok (head, record { frames = frames; end = end })
 
 -- any two numbers of turns above that of the bytes give the same records
 abbrev pub TurnsServe : FileHead → Limits → (at count : ℕ) → List ℕ → Type 0

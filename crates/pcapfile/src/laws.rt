@@ -8,7 +8,7 @@ ghost use Rattle.pcapfile.specs.State.{State};
 ghost use Rattle.pcapfile.specs.declared.tail.Tail.{Tail};
 ghost use Rattle.pcapfile.specs.Capture.{Ends};
 ghost use Rattle.pcapfile.specs.Reading.{place_at, end_of_tail};
-ghost use Rattle.pcapfile.specs.Laws.{RecordsStand, CaptureAccounts, TurnsServe, FaultStays, RecordStays, HoweverFed};
+ghost use Rattle.pcapfile.specs.Laws.{RecordsStand, CaptureAccounts, NoOthersDo, TurnsServe, FaultStays, RecordStays, HoweverFed};
 ghost use Rattle.pcapfile.specs.Fed.{CaptureHasRecords, StandsForNothing, IsFinished};
 ghost use Rattle.pcapfile.specs.Written.{Item, IsReadBack};
 
@@ -20,11 +20,16 @@ pub fn records_stand_in_a_row()
     ensures { (limits : Limits) (file : List ℕ) → RecordsStand limits file }
 {}
 
-/// A whole capture has 24 bytes and the sizes of all records; one that is cut has those and the bytes that are said;
-/// a record that is too big stands right behind them; and one that is too long has bytes behind them, and as many
-/// records as are read or more bytes than are read.
+/// The records of a capture take no more than the file has, and its end is that of what they leave: nothing; fewer bytes
+/// than the next record takes; a header with too great a length; or a byte more where no record or no byte more is read.
 pub fn each_byte_is_accounted_for()
     ensures { (limits : Limits) (file : List ℕ) → CaptureAccounts limits file }
+{}
+
+/// Records that stand in a row in this way, with an end that accounts for the rest in this way, are those of the
+/// capture: there are no others.
+pub fn no_other_records_do()
+    ensures { (limits : Limits) (file : List ℕ) → NoOthersDo limits file }
 {}
 
 /// More turns than there are bytes change no record, so the definition doesn't depend on the number of turns.

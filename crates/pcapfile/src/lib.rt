@@ -1,4 +1,4 @@
-//! Capture files of pcap 2.4: the file header, and the records behind it as the bytes of the file come.
+//! Capture files of pcap 2.4: the file header, the records behind it as the bytes of the file come, and captures that are written.
 //! Each answer is the one that the definition of a capture in specs/ gives for the bytes so far, and a record or a fault stays the answer whatever comes behind.
 //! Stands on byteorder.
 #![tactic(auto)]
