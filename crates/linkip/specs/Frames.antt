@@ -23,11 +23,11 @@ behind_tag typed =
     if nat_lt (length typed.bytes) 4 then None else
     Some (record { ether_type = short_at typed.bytes 2; bytes = drop 4 typed.bytes })
 
--- behind at most two tags
+-- behind at most two tags (our "two tags")
 abbrev pub behind_tags : Typed → Option Typed
 behind_tags typed = option_and_then behind_tag (behind_tag typed)
 
--- what an EtherType leads to: 0x0800 to IPv4, 0x86DD to IPv6, any other, a third tag too, to something else
+-- what an EtherType (IEEE 802.3) leads to: 0x0800 to IPv4, 0x86DD to IPv6, any other, a third tag too, to something else
 unfoldable pub by_ether_type : Option Typed → Carried
 by_ether_type None = Short
 by_ether_type (Some typed) =
@@ -41,7 +41,7 @@ behind_header size at frame =
     if nat_lt (length frame) size then Short else
     by_ether_type (behind_tags (record { ether_type = short_at frame at; bytes = drop size frame }))
 
--- what a frame carries that is a packet of the internet protocol, by its version
+-- what a frame carries that is a packet of the internet protocol (LINKTYPE_RAW), by its version
 unfoldable pub by_version : List ℕ → Carried
 by_version frame =
     if nat_eq (length frame) 0 then Short else

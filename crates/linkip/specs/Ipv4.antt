@@ -18,27 +18,27 @@ header_length packet = slice_index packet 0 % 16 * 4
 abbrev pub total_length : List ℕ → ℕ
 total_length packet = short_at packet 2
 
--- whether no whole header of version 4 stands there
+-- whether no whole header of version 4 stands there (our "what was captured")
 abbrev pub lacks_header : List ℕ → Bool
 lacks_header packet =
     nat_lt (length packet) 20 || not (nat_eq (version packet) 4) || nat_lt (header_length packet) 20 || nat_lt (length packet) (header_length packet)
 
--- whether the packet is said to be shorter than its header; a total length of 0 says nothing
+-- whether the packet is said to be shorter than its header (our "zero says nothing")
 abbrev pub ends_in_header : List ℕ → Bool
 ends_in_header packet = not (nat_eq (total_length packet) 0) && nat_lt (total_length packet) (header_length packet)
 
 unfoldable pub is_short : List ℕ → Bool
 is_short packet = lacks_header packet || ends_in_header packet
 
--- whether the bit for more fragments is set, or the fragment's offset (the 13 bits below) is not 0
+-- whether the bit for more fragments is set, or the fragment's offset (the 13 bits below) is not 0 (our "no fragments")
 unfoldable pub is_fragment : List ℕ → Bool
 is_fragment packet = not (nat_eq (bit_and (short_at packet 6) 0x2000) 0) || not (nat_eq (bit_and (short_at packet 6) 0x1fff) 0)
 
--- the length that the header declares for what follows it; a total length of 0 declares all that was captured
+-- the length that the header declares for what follows it (our "zero says nothing")
 abbrev pub declared_length : List ℕ → ℕ
 declared_length packet = (if nat_eq (total_length packet) 0 then length packet else total_length packet) - header_length packet
 
--- what a packet carries; the first rule that holds decides
+-- what a packet carries (our "the first that holds"); what was captured beyond the declared length is padding
 unfoldable pub ipv4 : List ℕ → Carried
 ipv4 packet =
     if is_short packet then Short else

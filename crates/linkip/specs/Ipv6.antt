@@ -13,11 +13,11 @@ version packet = slice_index packet 0 / 16
 unfoldable pub is_short : List ℕ → Bool
 is_short packet = nat_lt (length packet) 40 || not (nat_eq (version packet) 6)
 
--- the length that the header declares for the payload; a length of 0 declares all that was captured
+-- the length that the header declares for the payload (our "zero says nothing")
 abbrev pub declared_length : List ℕ → ℕ
 declared_length packet = if nat_eq (short_at packet 4) 0 then length packet - 40 else short_at packet 4
 
--- what was captured of the payload
+-- what was captured of the payload (our "what was captured")
 abbrev pub payload_of : List ℕ → List ℕ
 payload_of packet = take (declared_length packet) (drop 40 packet)
 
@@ -55,7 +55,7 @@ upper_within (suc turns) next bytes =
 abbrev pub upper_in : ℕ → List ℕ → Option Upper
 upper_in next bytes = upper_within (suc (length bytes)) next bytes
 
--- what the header of a fragment carries, which has eight bytes
+-- what the header of a fragment carries, which has eight bytes (our "no fragments")
 abbrev pub fragment : List ℕ → Carried
 fragment header = if nat_lt (length header) 8 then Short else Fragment
 
@@ -71,7 +71,7 @@ unfoldable pub above : Addr → Addr → ℕ → ℕ → Option Upper → Carrie
 above source target declared captured None = Short
 above source target declared captured (Some upper) = by_next source target (declared - (captured - length upper.left)) upper
 
--- what a packet carries
+-- what a packet carries (our "the first that holds")
 unfoldable pub ipv6 : List ℕ → Carried
 ipv6 packet =
     if is_short packet then Short else

@@ -4,4 +4,6 @@ pub mod Ipv4
 pub mod Ipv6
 pub mod Frames
 pub mod Views
+pub mod Chains
+pub mod Laws
 pub mod Rows

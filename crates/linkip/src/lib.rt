@@ -7,6 +7,7 @@ mod fields;
 mod frames;
 mod ipv4;
 mod ipv6;
+pub mod laws;
 mod net;
 pub mod rows;
 #[cfg(test)]
