@@ -7,7 +7,7 @@ use Rattle.linkip.specs.Fields.{bytes_at}
 use Rattle.linkip.specs.Carried.{Ip, is_transport}
 use Rattle.linkip.specs.Ipv4.{version, header_length, total_length, is_short, is_fragment, declared_length, ipv4}
 use Rattle.linkip.proofs.FieldLemmas.{short_at-front, bytes_at-front, index-front}
-use Rattle.linkip.specs.Laws.{IsPlainHeader, ipv4_with, Ipv4IsRead}
+use Rattle.linkip.specs.Laws.{IsHeader4, IsPlainHeader, SaysEnough, ipv4_with, Ipv4IsRead}
 
 -- A packet by its parts
 
@@ -22,36 +22,43 @@ short-test : (long version size total : ℕ) → 20 ≤ long → version ≡ 4 �
     → (nat_lt long 20 || not (nat_eq version 4) || nat_lt size 20 || nat_lt long size || (not (nat_eq total 0) && nat_lt total size)) ≡ false
 short-test long version size total a b c d e = grind (arith, nat_tests)
 
-is_fragment-front : (header rest : List ℕ) → 20 ≤ length header → is_fragment (header ++ rest) ≡ is_fragment header
+pub is_fragment-front : (header rest : List ℕ) → 20 ≤ length header → is_fragment (header ++ rest) ≡ is_fragment header
 unfolding is_fragment
 is_fragment-front header rest least = rw (short_at-front header rest 6 (omega arith))
 
-size-front : (header rest : List ℕ) → IsPlainHeader header → header_length (header ++ rest) ≡ length header
+pub size-front : (header rest : List ℕ) → IsHeader4 header → header_length (header ++ rest) ≡ length header
 size-front header rest plain =
     let least : 20 ≤ length header = plain.least in
     ap (λ (n : ℕ). n % 16 * 4) (index-front header rest 0 (omega arith)) ∙ sym plain.sized
 
-total-front : (header rest : List ℕ) → IsPlainHeader header → total_length (header ++ rest) ≡ total_length header
+pub total-front : (header rest : List ℕ) → IsHeader4 header → total_length (header ++ rest) ≡ total_length header
 total-front header rest plain =
     let least : 20 ≤ length header = plain.least in
     short_at-front header rest 2 (omega arith)
 
-ipv4-read : (header rest : List ℕ) (declared : ℕ) → IsPlainHeader header → (total_length header ≡ 0) ⊎ (length header ≤ total_length header)
-    → declared_length (header ++ rest) ≡ declared → ipv4 (header ++ rest) ≡ ipv4_with header declared (take declared rest)
+kind-front : (header rest : List ℕ) → IsHeader4 header → version (header ++ rest) ≡ 4
+kind-front header rest plain =
+    let least : 20 ≤ length header = plain.least in
+    ap (λ (n : ℕ). n / 16) (index-front header rest 0 (omega arith)) ∙ plain.version
+
+pub whole-front : (header rest : List ℕ) → IsHeader4 header → SaysEnough header → is_short (header ++ rest) ≡ false
 unfolding is_short
-ipv4-read header rest declared plain said d =
+whole-front header rest plain said =
     let least : 20 ≤ length header = plain.least in
     let size : header_length (header ++ rest) ≡ length header = size-front header rest plain in
     let total : total_length (header ++ rest) ≡ total_length header = total-front header rest plain in
-    let kind : version (header ++ rest) ≡ 4 = ap (λ (n : ℕ). n / 16) (index-front header rest 0 (omega arith)) ∙ plain.version in
     let long : length header ≤ length (header ++ rest) = rw length-append (omega arith) in
-    let whole : is_short (header ++ rest) ≡ false
-    = short-test (length (header ++ rest)) (version (header ++ rest)) (header_length (header ++ rest)) (total_length (header ++ rest))
-    (omega arith) kind (rw size least) (rw size long) (rw (size, total) said) in
-    ipv4-by (header ++ rest) rest (bytes_at header 12 4) (bytes_at header 16 4) (slice_index header 9) declared whole
-    (is_fragment-front header rest least ∙ plain.unfragmented) (index-front header rest 9 (omega arith)) plain.transport
-    (bytes_at-front header rest 12 4 (omega arith)) (bytes_at-front header rest 16 4 (omega arith)) d
-    (drop_at header rest (header_length (header ++ rest)) (sym size))
+    short-test (length (header ++ rest)) (version (header ++ rest)) (header_length (header ++ rest)) (total_length (header ++ rest))
+    (omega arith) (kind-front header rest plain) (rw size least) (rw size long) (rw (size, total) said)
+
+ipv4-read : (header rest : List ℕ) (declared : ℕ) → IsPlainHeader header → SaysEnough header
+    → declared_length (header ++ rest) ≡ declared → ipv4 (header ++ rest) ≡ ipv4_with header declared (take declared rest)
+ipv4-read header rest declared plain said d =
+    let least : 20 ≤ length header = plain.whole.least in
+    ipv4-by (header ++ rest) rest (bytes_at header 12 4) (bytes_at header 16 4) (slice_index header 9) declared
+    (whole-front header rest plain.whole said) (is_fragment-front header rest least ∙ plain.unfragmented) (index-front header rest 9 (omega arith))
+    plain.transport (bytes_at-front header rest 12 4 (omega arith)) (bytes_at-front header rest 16 4 (omega arith)) d
+    (drop_at header rest (header_length (header ++ rest)) (sym (size-front header rest plain.whole)))
 
 -- the declared length, by what the total length says
 
@@ -65,14 +72,14 @@ unsaid-length total size long n none e = rw none (omega arith)
 
 declared-said : (header rest : List ℕ) (n : ℕ) → IsPlainHeader header → total_length header ≡ length header + n → declared_length (header ++ rest) ≡ n
 declared-said header rest n plain e =
-    said-length (total_length (header ++ rest)) (header_length (header ++ rest)) (length (header ++ rest)) n (rw (size-front header rest plain) plain.least)
-    (total-front header rest plain ∙ e ∙ ap (λ (k : ℕ). k + n) (sym (size-front header rest plain)))
+    said-length (total_length (header ++ rest)) (header_length (header ++ rest)) (length (header ++ rest)) n (rw (size-front header rest plain.whole) plain.whole.least)
+    (total-front header rest plain.whole ∙ e ∙ ap (λ (k : ℕ). k + n) (sym (size-front header rest plain.whole)))
 
 declared-unsaid : (header rest : List ℕ) → IsPlainHeader header → total_length header ≡ 0 → declared_length (header ++ rest) ≡ length rest
 declared-unsaid header rest plain none =
     unsaid-length (total_length (header ++ rest)) (header_length (header ++ rest)) (length (header ++ rest)) (length rest)
-    (total-front header rest plain ∙ none)
-    (length-append header rest ∙ ap (λ (k : ℕ). k + length rest) (sym (size-front header rest plain)))
+    (total-front header rest plain.whole ∙ none)
+    (length-append header rest ∙ ap (λ (k : ℕ). k + length rest) (sym (size-front header rest plain.whole)))
 
 pub ipv4_is_read : (header body rest : List ℕ) → IsPlainHeader header → Ipv4IsRead header body rest
 ipv4_is_read header body rest plain = record {

@@ -34,7 +34,7 @@ ipv6-by packet payload body source target next proto declared whole n s g d p u 
 short-test : (long version : ℕ) → 40 ≤ long → version ≡ 6 → (nat_lt long 40 || not (nat_eq version 6)) ≡ false
 short-test long version a b = grind (arith, nat_tests)
 
-whole-front : (header rest : List ℕ) → IsHeader6 header → is_short (header ++ rest) ≡ false
+pub whole-front : (header rest : List ℕ) → IsHeader6 header → is_short (header ++ rest) ≡ false
 unfolding is_short
 whole-front header rest six =
     let sized : length header ≡ 40 = six.sized in
@@ -78,7 +78,7 @@ ipv6-parts header rest headers proto missing body six chain t d front =
 
 -- the declared length, by what the payload length says
 
-declared-front : (header rest : List ℕ) → IsHeader6 header
+pub declared-front : (header rest : List ℕ) → IsHeader6 header
     → declared_length (header ++ rest) ≡ cond (nat_eq (payload_length header) 0) (length rest) (payload_length header)
 declared-front header rest six =
     let sized : length header ≡ 40 = six.sized in
@@ -88,7 +88,7 @@ declared-front header rest six =
 said-some : (said long n : ℕ) → said ≡ n → 0 < said → cond (nat_eq said 0) long said ≡ n + 0
 said-some said long n e some = grind (arith, nat_tests)
 
-said-more : (said long missing : ℕ) → said ≡ long + missing → cond (nat_eq said 0) long said ≡ long + missing
+pub said-more : (said long missing : ℕ) → said ≡ long + missing → cond (nat_eq said 0) long said ≡ long + missing
 said-more said long missing e = grind (arith, nat_tests)
 
 said-none : (said long : ℕ) → said ≡ 0 → cond (nat_eq said 0) long said ≡ long + 0
@@ -97,7 +97,7 @@ said-none said long e = grind (arith, nat_tests)
 take-front : (front back : List ℕ) → take (length front + 0) (front ++ back) ≡ front
 take-front front back = take_at front back (length front + 0) (omega arith)
 
-take-more : (bytes : List ℕ) (more : ℕ) → take (length bytes + more) bytes ≡ bytes
+pub take-more : (bytes : List ℕ) (more : ℕ) → take (length bytes + more) bytes ≡ bytes
 take-more bytes more = take_all (length bytes + more) bytes (omega arith)
 
 no_more : (n : ℕ) → n + 0 ≡ n

@@ -6,3 +6,4 @@ pub mod FrameLaws
 pub mod Ipv4Laws
 pub mod Ipv6Laws
 pub mod LyingLaws
+pub mod SkipLaws

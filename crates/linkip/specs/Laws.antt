@@ -1,11 +1,11 @@
-use Rattle.std.specs.Prelude.{◌≡◌, ◌<◌, ◌≤◌, ℕ, ◌+◌, ◌/◌, ◌%◌, true, false, All, List, [], ◌∷◌, ◌++◌, length, slice_index, MatchOption, Some}
+use Rattle.std.specs.Prelude.{◌≡◌, ◌<◌, ◌≤◌, ℕ, ◌+◌, ◌/◌, ◌%◌, true, false, All, List, [], ◌∷◌, ◌++◌, length, take, slice_index, ◌⊎◌, MatchOption, Some}
 use Rattle.pcapfile.specs.declared.link.Link.TheVariants.{Ethernet, Cooked, Cooked2}
 use Rattle.streamkey.specs.declared.addr.Addr.TheVariants.{V4, V6}
 use Rattle.linkip.specs.Fields.{short_at, bytes_at}
 use Rattle.linkip.specs.Carried.{Carried, Ip, Fragment, Other, Short, is_transport}
 use Rattle.linkip.specs.Ipv4.{ipv4, header_length, total_length, is_fragment}
 use Rattle.linkip.specs.Ipv4.{version as ipv4_version}
-use Rattle.linkip.specs.Ipv6.{ipv6, upper_in}
+use Rattle.linkip.specs.Ipv6.{ipv6, upper_in, is_extension, is_fragment_header, is_cut}
 use Rattle.linkip.specs.Ipv6.{version as ipv6_version}
 use Rattle.linkip.specs.Frames.{Typed, is_tag, behind_tags, by_ether_type, network}
 use Rattle.linkip.specs.Chains.{IsChain, IsCutChain, IsWholeChain, joined}
@@ -48,11 +48,15 @@ ThirdTagIsOther a b c inner = IsTag a → IsTag b → IsTag c → by_ether_type 
 
 -- IPv4
 
--- a whole header of version 4 that says that it is no fragment and that TCP or UDP follows
-pub record IsPlainHeader (header : List ℕ) : Type 0 where
+-- a whole header of version 4, with its options
+pub record IsHeader4 (header : List ℕ) : Type 0 where
   pub version : ipv4_version header ≡ 4
   pub least : 20 ≤ length header
   pub sized : length header ≡ header_length header
+
+-- one that says that it is no fragment and that TCP or UDP follows
+pub record IsPlainHeader (header : List ℕ) : Type 0 where
+  pub whole : IsHeader4 header
   pub unfragmented : is_fragment header ≡ false
   pub transport : is_transport (slice_index header 9) ≡ true
 
@@ -62,9 +66,24 @@ ipv4_with header declared body = Ip (slice_index header 9) (V4 (bytes_at header 
 -- a packet of IPv4 is a header, its body, and padding that no one counts; a body that was cut is declared whole; a total
 -- length of 0 declares what was captured
 pub record Ipv4IsRead (header body rest : List ℕ) : Type 0 where
-  pub whole : total_length header ≡ length header + length body → ipv4 (header ++ (body ++ rest)) ≡ ipv4_with header (length body) body
-  pub cut : total_length header ≡ length header + length body + length rest → ipv4 (header ++ body) ≡ ipv4_with header (length body + length rest) body
+  pub whole : total_length header ≡ length header + length body
+      → ipv4 (header ++ (body ++ rest)) ≡ ipv4_with header (length body) body
+  pub cut : total_length header ≡ length header + length body + length rest
+      → ipv4 (header ++ body) ≡ ipv4_with header (length body + length rest) body
   pub unsaid : total_length header ≡ 0 → ipv4 (header ++ body) ≡ ipv4_with header (length body) body
+
+-- whether the total length says nothing, or as much as the header has
+abbrev pub SaysEnough : List ℕ → Type 0
+SaysEnough header = (total_length header ≡ 0) ⊎ (length header ≤ total_length header)
+
+-- a header that is cut anywhere is short, and so is one that is said to end in itself; then a fragment is one, whatever it
+-- carries; then another protocol is something else
+pub record Ipv4IsSkipped (header rest : List ℕ) : Type 0 where
+  pub cut : (n : ℕ) → n < length header → ipv4 (take n header) ≡ Short
+  pub contradicts : 0 < total_length header → total_length header < length header → ipv4 (header ++ rest) ≡ Short
+  pub fragment : SaysEnough header → is_fragment header ≡ true → ipv4 (header ++ rest) ≡ Fragment
+  pub other : SaysEnough header → is_fragment header ≡ false → is_transport (slice_index header 9) ≡ false
+      → ipv4 (header ++ rest) ≡ Other
 
 -- IPv6
 
@@ -81,9 +100,22 @@ ipv6_with header proto declared body = Ip proto (V6 (bytes_at header 8 16)) (V6 
 
 -- a packet of IPv6 is a header, a chain of extension headers, the body, and padding; likewise
 pub record Ipv6IsRead (header : List ℕ) (headers : List (List ℕ)) (proto : ℕ) (body rest : List ℕ) : Type 0 where
-  pub whole : payload_length header ≡ length (joined headers ++ body) → 0 < payload_length header → ipv6 (header ++ ((joined headers ++ body) ++ rest)) ≡ ipv6_with header proto (length body) body
-  pub cut : payload_length header ≡ length (joined headers ++ body) + length rest → ipv6 (header ++ (joined headers ++ body)) ≡ ipv6_with header proto (length body + length rest) body
-  pub unsaid : payload_length header ≡ 0 → ipv6 (header ++ (joined headers ++ body)) ≡ ipv6_with header proto (length body) body
+  pub whole : payload_length header ≡ length (joined headers ++ body) → 0 < payload_length header
+      → ipv6 (header ++ ((joined headers ++ body) ++ rest)) ≡ ipv6_with header proto (length body) body
+  pub cut : payload_length header ≡ length (joined headers ++ body) + length rest
+      → ipv6 (header ++ (joined headers ++ body)) ≡ ipv6_with header proto (length body + length rest) body
+  pub unsaid : payload_length header ≡ 0
+      → ipv6 (header ++ (joined headers ++ body)) ≡ ipv6_with header proto (length body) body
+
+-- a header that is cut anywhere is short; a chain whose payload length says just what there is is short where an extension
+-- header or the header of a fragment is cut, and else what stands behind its extension headers
+pub record Ipv6IsSkipped (header : List ℕ) (headers : List (List ℕ)) (last : ℕ) (rest : List ℕ) : Type 0 where
+  pub header_cut : (n : ℕ) → n < 40 → ipv6 (take n header) ≡ Short
+  pub cut : is_extension last ≡ true → is_cut rest ≡ true → ipv6 (header ++ (joined headers ++ rest)) ≡ Short
+  pub fragment : last ≡ 44 → 8 ≤ length rest → ipv6 (header ++ (joined headers ++ rest)) ≡ Fragment
+  pub fragment_cut : last ≡ 44 → length rest < 8 → ipv6 (header ++ (joined headers ++ rest)) ≡ Short
+  pub other : is_extension last ≡ false → is_fragment_header last ≡ false → is_transport last ≡ false
+      → ipv6 (header ++ (joined headers ++ rest)) ≡ Other
 
 -- a chain's first header that is no extension header is the one behind its extension headers, and none is found exactly
 -- where one of them is cut

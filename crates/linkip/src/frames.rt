@@ -30,7 +30,9 @@ struct Typed<'a> {
 /// What stands behind a tag, where a tag stands there; none where the bytes end inside it.
 #[tactic(auto, unfolding(crate::specs::Frames::behind_tag))]
 fn behind_tag(ether_type: u16, bytes: &[u8]) -> Option<Typed<'_>>
-    ensures exact { let tag : Tagged = record { ether_type = ether_type; bytes = bytes.now } in MatchOption result (behind_tag_of tag ≡ None) (λ t. behind_tag_of tag ≡ Some (record { ether_type = t.ether_type; bytes = t.bytes.now })) }
+    ensures exact { let tag : Tagged = record { ether_type = ether_type; bytes = bytes.now } in
+        MatchOption result (behind_tag_of tag ≡ None)
+        (λ t. behind_tag_of tag ≡ Some (record { ether_type = t.ether_type; bytes = t.bytes.now })) }
     ensures within { IfSome result (λ t. length t.bytes.now ≤ length bytes.now) }
 {
     match ether_type {

@@ -88,7 +88,8 @@ fn behind_extension(bytes: &[u8]) -> Option<Upper<'_>>
 
 /// The first header in a chain that is no extension header, where none before it is cut.
 fn behind_extensions(first: u8, payload: &[u8]) -> Option<Upper<'_>>
-    ensures exact { MatchOption result (upper_in first payload.now ≡ None) (λ u. upper_in first payload.now ≡ Some (record { next = u.next; left = u.left.now })) }
+    ensures exact { MatchOption result (upper_in first payload.now ≡ None)
+        (λ u. upper_in first payload.now ≡ Some (record { next = u.next; left = u.left.now })) }
     ensures within { IfSome result (λ u. length u.left.now ≤ length payload.now) }
 {
     let mut upper = Upper {
@@ -115,7 +116,8 @@ fn fragment(header: &[u8]) -> Net<'_>
 /// What the header carries that stands behind all extension headers, where so many bytes are declared from it on.
 #[tactic(auto, unfolding(crate::specs::Ipv6::by_next))]
 fn by_next(source: Addr, target: Addr, upper: Upper<'_>, declared: u32) -> Net<'_>
-    ensures { carried result ≡ by_next_of source target declared (record { next = upper.entry.next; left = upper.entry.left.now }) }
+    ensures { carried result
+        ≡ by_next_of source target declared (record { next = upper.entry.next; left = upper.entry.left.now }) }
 {
     if upper.next == FRAGMENT {
         return fragment(upper.left);

@@ -1,3 +1,4 @@
 pub mod KindLemmas
 pub mod BodyLaws
 pub mod PayloadLaws
+pub mod ShortLaws

@@ -1,7 +1,8 @@
-use Rattle.std.specs.Prelude.{◌≡◌, ◌<◌, ◌≤◌, ℕ, ◌+◌, ◌-◌, List, ◌++◌, length}
+use Rattle.std.specs.Prelude.{◌≡◌, ◌<◌, ◌≤◌, ℕ, ◌+◌, ◌-◌, List, ◌++◌, length, take}
 use Rattle.streamkey.specs.declared.addr.Addr.{Addr}
 use Rattle.streamkey.specs.declared.proto.Proto.TheVariants.{Tcp, Udp}
 use Rattle.streamkey.specs.Key.{key_of}
+use Rattle.porthdr.specs.declared.skip.Skip.TheVariants as skip
 use Rattle.porthdr.specs.Kind.{Kind, Accepted, Skipped, accepted, end_at}
 use Rattle.porthdr.specs.Tcp.{header_length, sequence_number, control_bits, tcp}
 use Rattle.porthdr.specs.Udp.{said_length, udp}
@@ -35,6 +36,14 @@ pub record DatagramIsRead (source target : Addr) (declared : ℕ) (header payloa
       → udp source target declared (header ++ payload) ≡ datagram_with source target header (declared - 8) payload
   pub beyond : declared < said_length header → 8 + length payload ≤ declared
       → udp source target declared (header ++ payload) ≡ datagram_with source target header (declared - 8) payload
+
+-- a header that is cut anywhere is short, and so is one of UDP that is said to end in itself
+pub record SegmentIsShort (source target : Addr) (declared : ℕ) (header : List ℕ) : Type 0 where
+  pub cut : (n : ℕ) → n < length header → tcp source target declared (take n header) ≡ Skipped skip.Short
+
+pub record DatagramIsShort (source target : Addr) (declared : ℕ) (header rest : List ℕ) : Type 0 where
+  pub cut : (n : ℕ) → n < 8 → udp source target declared (take n header) ≡ Skipped skip.Short
+  pub contradicts : 0 < said_length header → said_length header < 8 → udp source target declared (header ++ rest) ≡ Skipped skip.Short
 
 -- the payload of a record lies in its frame
 abbrev pub PayloadLiesIn : List ℕ → Kind → Type 0

@@ -6,18 +6,32 @@ ghost use Rattle.streamkey.specs.declared.addr.Addr.{Addr};
 ghost use Rattle.linkip.specs.Carried.{Carried, IsWithinDeclared};
 ghost use Rattle.porthdr.specs.Kind.{IsWithin};
 ghost use Rattle.porthdr.specs.Transport.{transport, kind_of};
-ghost use Rattle.porthdr.specs.Laws.{IsSegmentHeader, SegmentIsRead, DatagramIsRead, PayloadLiesIn};
+ghost use Rattle.porthdr.specs.Laws.{IsSegmentHeader, SegmentIsRead, SegmentIsShort, DatagramIsRead, DatagramIsShort, PayloadLiesIn};
 
 use crate::Skip;
 
 /// A segment of TCP is a header with its options, and a payload.
 pub fn a_segment_is_a_header_and_a_payload()
-    ensures { (source target : Addr) (declared : ℕ) (header payload : List ℕ) → IsSegmentHeader header → SegmentIsRead source target declared header payload }
+    ensures { (source target : Addr) (declared : ℕ) (header payload : List ℕ) → IsSegmentHeader header
+        → SegmentIsRead source target declared header payload }
 {}
 
 /// A datagram of UDP is a header of eight bytes, a payload of which some may be cut, and padding.
 pub fn a_datagram_is_a_header_and_a_payload()
-    ensures { (source target : Addr) (declared : ℕ) (header payload rest : List ℕ) → length header ≡ 8 → DatagramIsRead source target declared header payload rest }
+    ensures { (source target : Addr) (declared : ℕ) (header payload rest : List ℕ) → length header ≡ 8
+        → DatagramIsRead source target declared header payload rest }
+{}
+
+/// A header of TCP that is cut anywhere is short.
+pub fn a_cut_segment_is_short()
+    ensures { (source target : Addr) (declared : ℕ) (header : List ℕ) → IsSegmentHeader header
+        → SegmentIsShort source target declared header }
+{}
+
+/// A header of UDP that is cut anywhere is short, and so is one that is said to end in itself.
+pub fn a_cut_datagram_is_short()
+    ensures { (source target : Addr) (declared : ℕ) (header rest : List ℕ) → length header ≡ 8
+        → DatagramIsShort source target declared header rest }
 {}
 
 /// No more of a payload was captured than is declared for it.
