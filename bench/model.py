@@ -7,6 +7,9 @@ It shares no code with the program and none with make_udp.py. A capture that isn
 import argparse
 import struct
 
+CHUNK = 16_384
+MOST_WAITING = 255
+
 
 def require(holds, what):
     if not holds:
@@ -14,14 +17,15 @@ def require(holds, what):
 
 
 def frames(capture):
+    """The moment in nanoseconds and the bytes of each record."""
     require(capture[:6] == bytes.fromhex("d4c3b2a10200"), "not a little-endian microsecond capture")
     require(capture[20:22] == b"\x01\x00", "not Ethernet")
     at = 24
     while at < len(capture):
         require(at + 16 <= len(capture), "cut header")
-        size = struct.unpack_from("<I", capture, at + 8)[0]
+        seconds, fraction, size = struct.unpack_from("<III", capture, at)
         require(at + 16 + size <= len(capture), "cut record")
-        yield capture[at + 16 : at + 16 + size]
+        yield seconds * 10**9 + fraction * 1000, capture[at + 16 : at + 16 + size]
         at += 16 + size
 
 
@@ -39,57 +43,136 @@ def datagram(frame):
     return end_text(frame[26:30], source_port), end_text(frame[30:34], target_port), frame[42:]
 
 
+class Half:
+    """A direction: the chunk that is open, and where it begins."""
+
+    def __init__(self):
+        self.start = 0
+        self.chunk = []
+
+    @property
+    def open_bytes(self):
+        return sum(len(part) for part in self.chunk)
+
+    def closed(self):
+        """The start and the parts of the chunk, which a new one follows."""
+        start, parts = self.start, self.chunk
+        self.start, self.chunk = start + self.open_bytes, []
+        return start, parts
+
+
 class Conversation:
     def __init__(self, number, source):
         self.number = number
         self.source = source
-        self.sums = {">": 0, "<": 0}
+        self.halves = {">": Half(), "<": Half()}
 
     def way_from(self, source):
         return ">" if source == self.source else "<"
 
-    def advance(self, way, size):
-        """Counts a payload, and answers where it starts."""
-        start = self.sums[way]
-        self.sums[way] += size
-        return start
 
+class Replay:
+    """One core and one worker, under a budget that never refuses: a capture is shorter than what any priority may fill."""
 
-def replay(capture):
-    """The delivery lines, the conversations by their keys in the order of their numbers, and how many records."""
-    lines, conversations, number = [], {}, 0
-    for number, frame in enumerate(frames(capture), 1):
-        source, target, payload = datagram(frame)
+    def __init__(self):
+        self.conversations = {}
+        self.lines, self.entries = [], []
+        self.waiting, self.answered = [], 0
+        self.stamp, self.used, self.peak = 0, 0, 0
+        self.records, self.clock = 0, 0
+
+    def tell(self, number, line, charges=()):
+        self.waiting.append((number, line, charges))
+
+    def answer(self, most):
+        """Answers events until no more than so many wait."""
+        told = max(len(self.waiting) - most, 0)
+        for number, line, charges in self.waiting[:told]:
+            self.answered += 1
+            self.lines.append(line)
+            self.entries.append(f"ans {number} {self.answered} .{''.join(map(self.released, charges))}\n")
+        del self.waiting[:told]
+
+    def released(self, size):
+        word = f" ~{size}@{self.stamp}"
+        self.stamp, self.used = self.stamp + 1, self.used - size
+        return word
+
+    def granted(self, size):
+        word = f" +{size}@{self.stamp}:{self.used}"
+        self.stamp, self.used = self.stamp + 1, self.used + size
+        self.peak = max(self.peak, self.used)
+        return word
+
+    def hand_over(self, number, way, half):
+        start, parts = half.closed()
+        line = f"data {number} {way} {start} 0 0 0 {b''.join(parts).hex()}\n"
+        self.tell(number, line, [len(part) for part in parts])
+
+    def conversation_of(self, source, target):
         key = frozenset((source, target))
-        if key not in conversations:
-            conversations[key] = Conversation(number, source)
-            lines.append(f"new {number} udp {source} {target}\n")
-        conversation = conversations[key]
+        if key not in self.conversations:
+            self.conversations[key] = Conversation(self.records, source)
+            self.tell(self.records, f"new {self.records} udp {source} {target}\n")
+        return self.conversations[key]
+
+    def take(self, moment, source, target, payload):
+        self.answer(0)
+        self.records, self.clock = self.records + 1, max(self.clock, moment)
+        conversation = self.conversation_of(source, target)
         way = conversation.way_from(source)
-        start = conversation.advance(way, len(payload))
+        look = self.granted(len(payload)) if payload else ""
+        self.entries.append(f"seg {conversation.number} {self.records} {self.clock}{look}\n")
+        half = conversation.halves[way]
         if payload:
-            lines.append(f"data {conversation.number} {way} {start} 0 0 0 {payload.hex()}\n")
-    lines.extend(f"end {conversation.number} finish\n" for conversation in conversations.values())
-    return lines, conversations, number
+            half.chunk.append(payload)
+        if half.open_bytes >= CHUNK:
+            self.hand_over(conversation.number, way, half)
+
+    def end(self):
+        """Ends all conversations in the order of their numbers, with fewer than 256 events waiting before each."""
+        self.answer(0)
+        for conversation in self.conversations.values():
+            self.answer(MOST_WAITING)
+            self.entries.append(f"end {conversation.number} {self.clock} finish\n")
+            for way, half in conversation.halves.items():
+                if half.chunk:
+                    self.hand_over(conversation.number, way, half)
+            self.tell(conversation.number, f"end {conversation.number} finish\n")
+        self.answer(0)
 
 
-def report_lines(conversations, records):
-    yield "scap report 1\ncores 1 workers 1\n"
+def replay_of(capture):
+    replay = Replay()
+    for moment, frame in frames(capture):
+        replay.take(moment, *datagram(frame))
+    replay.end()
+    return replay
+
+
+def report_lines(replay):
+    yield "scap report 1\ncores 1 workers 1\ncore 0\n"
+    yield from replay.entries
+    yield "worker 0\n"
+    if replay.answered:
+        yield f"from 0 {replay.answered}\n"
     total = 0
-    for conversation in conversations.values():
-        for way, size in conversation.sums.items():
+    for conversation in replay.conversations.values():
+        for way, half in conversation.halves.items():
+            size = half.start
             yield f"dir {conversation.number} {way} {size} {size} 0 0 0 0 0 0\n"
             total += size
+    records = replay.records
     yield f"records {records} accepted {records} filtered 0 other 0 fragment 0 short 0\n"
     yield f"bytes payload {total} delivered {total} duplicate 0 late 0 cut 0 shed 0\n"
+    yield f"budget stamps {replay.stamp} peak {replay.peak} refused 0\n"
     yield "status 0\n"
 
 
 def files_of(capture):
     """The bytes of OUT.0 and of OUT.report."""
-    lines, conversations, records = replay(capture)
-    report = report_lines(conversations, records)
-    return "".join(lines).encode("ascii"), "".join(report).encode("ascii")
+    replay = replay_of(capture)
+    return "".join(replay.lines).encode("ascii"), "".join(report_lines(replay)).encode("ascii")
 
 
 def main():

@@ -1,5 +1,5 @@
 -- What the report of a run of one core of datagrams shows: the running numbers.
-use Rattle.std.specs.Prelude.{◌≡◌, refl, ℕ, ◌<◌, true, false, cond, nat_lt, ◌==◌, List, [], ◌∷◌, ◌++◌, map, flat_map, codes}
+use Rattle.std.specs.Prelude.{◌≡◌, refl, ℕ, ◌<◌, Bool, true, false, cond, not, ◌&&◌, nat_lt, ◌==◌, List, [], ◌∷◌, ◌++◌, map, flat_map, codes}
 use Rattle.std.specs.Fmt.{decimal}
 use Rattle.std.proofs.Common.{sym, ◌∙◌, ap, subst, arith, append-nil}
 use Rattle.std.proofs.lemmas.Bool.Decides.{nat_tests}
@@ -8,7 +8,10 @@ use Rattle.evring.specs.declared.way.Way.{Way}
 use Rattle.evring.specs.declared.way.Way.TheVariants.{Fore, Back}
 use Rattle.streamdefs.specs.Lists.{Each, total}
 use Rattle.streamdefs.specs.Terms.{Terms}
-use Rattle.streamdefs.specs.Convo.{new_convo}
+use Rattle.std.specs.List.{list_all}
+use Rattle.streamdefs.specs.Accounts.{IsAccounted}
+use Rattle.streamdefs.proofs.Accounted.{accounted_at_end}
+use Rattle.streamdefs.specs.Convo.{convo_after, is_live, new_convo}
 use Rattle.streamdefs.specs.Core.{Line, Open, core_at, idle_core, history}
 use Rattle.streamdefs.specs.Lawful.{Run}
 use Rattle.streamdefs.specs.Totals.{Total, total_of}
@@ -131,6 +134,23 @@ no_total : (rows : List Row) → total (over_both (λ s. 0)) rows ≡ 0
 no_total [] = refl
 no_total (r ∷ rows) = omega (arith, no_total rows)
 
+-- what is said of conversations that have ended
+one_ended : (live rest : Bool) → (not live && rest) ≡ true → (live ≡ false) × (rest ≡ true)
+one_ended true rest h = absurd (grind (arith, h))
+one_ended false rest h = (refl, h)
+
+each_accounted : (t : Terms) (lines : List Line) (rows : List Row) (os : List Open) → Tallies t lines rows os → list_all (λ o. not (is_live o.convo)) os ≡ true
+    → Each IsAccounted (totals_in (map (tallied_as (plain t) lines) os))
+each_accounted t lines [] [] h e = tt
+each_accounted t lines [] (o ∷ os) h e = absurd h
+each_accounted t lines (r ∷ rows) [] h e = absurd h
+each_accounted t lines (r ∷ rows) (o ∷ os) h e =
+    let both : (is_live o.convo ≡ false) × (list_all (λ (o : Open). not (is_live o.convo)) os ≡ true) = one_ended (is_live o.convo) (list_all (λ (o : Open). not (is_live o.convo)) os) e in
+    let dead : is_live (convo_after (plain t) (new_convo o.convo.first) (history o.id lines)) ≡ false = ap is_live h.0.convo_is ∙ both.0 in (
+      accounted_at_end (plain t) o.convo.first Fore (history o.id lines) dead,
+      (accounted_at_end (plain t) o.convo.first Back (history o.id lines) dead, each_accounted t lines rows os h.1 both.1),
+    )
+
 -- The report of a run of one core of datagrams, whose conversations have rising numbers.
 module _ (t : Terms) (run : Run) (lines : List Line) (rows : List Row)
     (settings : run.terms ≡ plain t) (one_book : run.books ≡ lines ∷ []) (tallies : Tallies t lines rows (core_at (plain t) idle_core lines).convos) (rising : Rises (map number_of rows)) where
@@ -143,6 +163,10 @@ module _ (t : Terms) (run : Run) (lines : List Line) (rows : List Row)
       (λ i. by_number (flat_map (tallied_on (settings i)) (one_book i)))
       ∙ ap by_number (append-nil (map (tallied_as (plain t) lines) os))
       ∙ by_number_rising (map (tallied_as (plain t) lines) os) (subst Rises (sym (tallied_rise t lines rows os tallies)) rising)
+
+  -- once all have ended, each byte that came is delivered or counted
+  pub accounted_are : list_all (λ o. not (is_live o.convo)) os ≡ true → Each IsAccounted (totals_in (tallied_in run))
+  accounted_are ended = subst (λ (ts : List Tallied). Each IsAccounted (totals_in ts)) (sym tallied_is) (each_accounted t lines rows os tallies ended)
 
   -- the lines of the directions
   pub dir_lines_are : flat_map dir_lines (tallied_in run) ≡ flat_map row_lines rows

@@ -1,5 +1,5 @@
 -- A replay that is over.
-use Rattle.std.specs.Prelude.{All, ◌^◌, ◌<◌, slice_index_or, ◌≡◌, refl, ℕ, zero, suc, ◌≤◌, false, List, [], ◌∷◌, length, map, flat_map, replicate}
+use Rattle.std.specs.Prelude.{All, not, true, ◌^◌, ◌<◌, slice_index_or, ◌≡◌, refl, ℕ, zero, suc, ◌≤◌, false, List, [], ◌∷◌, length, map, flat_map, replicate}
 use Rattle.std.proofs.Common.{sym, ◌∙◌, ap, subst, arith}
 use Rattle.histbook.specs.declared.core_entry.CoreEntry.{CoreEntry}
 use Rattle.histbook.specs.declared.journal.Journal.{Journal}
@@ -10,14 +10,16 @@ use Rattle.std.proofs.lemmas.List.{length-replicate}
 use Rattle.histbook.specs.Moves.{looks_in}
 use Rattle.prio_budget.specs.MarkParts.{MarkParts}
 use Rattle.prio_budget.specs.Marks.{mark_of}
-use Rattle.streamdefs.specs.Lists.{Each, total}
+use Rattle.streamdefs.specs.Lists.{Each, EachNumbered, total}
 use Rattle.streamdefs.specs.Marks.{Marks, mark}
 use Rattle.streamdefs.specs.Case.{line_of}
-use Rattle.streamdefs.specs.Core.{core_at, idle_core}
+use Rattle.streamdefs.specs.Core.{Line, core_at, idle_core}
 use Rattle.streamdefs.specs.Packet.{Packet}
 use Rattle.streamdefs.specs.Terms.{Terms}
 use Rattle.streamdefs.specs.Totals.{peak, refused}
-use Rattle.streamdefs.specs.Lawful.{Lawful}
+use Rattle.std.specs.List.{list_all}
+use Rattle.streamdefs.specs.Convo.{is_live}
+use Rattle.streamdefs.specs.Lawful.{Ends, Lawful, core_run}
 use Rattle.streamdefs.specs.Order.{OneHistory, all_looks, all_moves}
 use Rattle.streamdefs.specs.WorkerText.{worker_text}
 use Rattle.datagrams.specs.declared.conversation.Conversation.{Conversation}
@@ -31,7 +33,7 @@ use Rattle.datagrams.specs.Sums.{Rises, Row, Tallies, bytes_open, kept_in, numbe
 use Rattle.datagrams.proofs.RowLemmas.{rows_dead, rows_numbers}
 use Rattle.datagrams.proofs.Standing.{standing_whole}
 use Rattle.datagrams.proofs.StandsSteps.{stands_none}
-use Rattle.datagrams.proofs.TallyReport.{total_lines_are}
+use Rattle.datagrams.proofs.TallyReport.{accounted_are, total_lines_are}
 use Rattle.datagrams.proofs.WholeRun.{whole_budget}
 
 -- what is shut holds nothing
@@ -56,21 +58,31 @@ whole_replay t last first packets s journal h calm unused cores workers = record
   text_is = ap (λ (lists : List (List ℕ)). text_of (record (run_for t packets last journal) { served = lists })) workers ∙ all.2;
   one_core = ap (λ (l : List (List CoreEntry)). length l) cores;
   one_worker = ap (λ (l : List (List ℕ)). length l) workers;
-  lines = λ records outcome. total_lines_are t (run_for t packets last journal) (map (line_of packets) s.book) (rows_of false s.table) refl
-      (ap (map (map (line_of packets))) cores)
-      (subst (λ (rows : List Row). Tallies t (map (line_of packets) s.book) rows (core_at (plain t) idle_core (map (line_of packets) s.book)).convos) (rows_dead s.table) h.tallies)
-      (subst Rises (sym (ap (map number_of) (sym (rows_dead s.table)) ∙ rows_numbers (length s.table) s.table)) h.rise) records outcome;
+  accounted = accounted_are t (run_for t packets last journal) (map (line_of packets) s.book) (rows_of false s.table) refl one_book tallies rising ended;
+  lines = λ records outcome. total_lines_are t (run_for t packets last journal) (map (line_of packets) s.book) (rows_of false s.table) refl one_book tallies rising records outcome;
   stamps_are = budget.0;
   peak_is = budget.1 ∙ sym h.peak_is;
   refused_are = ap refused budget.2 ∙ sym h.refused_is;
 }
   where
+    one_book : map (map (line_of packets)) journal.cores ≡ map (line_of packets) s.book ∷ []
+    one_book = ap (map (map (line_of packets))) cores
+
+    tallies : Tallies t (map (line_of packets) s.book) (rows_of false s.table) (core_at (plain t) idle_core (map (line_of packets) s.book)).convos
+    tallies = subst (λ (rows : List Row). Tallies t (map (line_of packets) s.book) rows (core_at (plain t) idle_core (map (line_of packets) s.book)).convos) (rows_dead s.table) h.tallies
+
+    rising : Rises (map number_of (rows_of false s.table))
+    rising = subst Rises (sym (ap (map number_of) (sym (rows_dead s.table)) ∙ rows_numbers (length s.table) s.table)) h.rise
+
     standing : Standing t last first packets packets s.book (kept_in (rows_of false s.table)) [] (finished_in (length s.table) s.table) s.answered s.text s.budget.stamp 0
     standing = subst (λ (x : List Row × List Untold × ℕ). Standing t last first packets packets s.book (kept_in x.0) (map told_as x.1) (finished_in (length s.table) s.table) s.answered s.text s.budget.stamp x.2)
         (λ i. (rows_dead s.table i, calm i, unused i)) h.standing
 
     all : Lawful (run_for t packets last journal) × OneHistory (run_for t packets last journal) × (worker_text (run_for t packets last journal) (replicate s.answered 0) ≡ s.text)
     all = standing_whole t last first packets journal s.book (kept_in (rows_of false s.table)) (finished_in (length s.table) s.table) s.answered s.budget.stamp s.text cores workers standing (all_dead s.table)
+
+    ended : list_all (λ o. not (is_live o.convo)) (core_at (plain t) idle_core (map (line_of packets) s.book)).convos ≡ true
+    ended = (subst (λ (books : List (List Line)). EachNumbered (λ core lines. Ends (core_run (run_for t packets last journal) core lines)) 0 books) one_book all.0.ends).0.1.0
 
     budget : (length (all_moves (run_for t packets last journal)) ≡ s.budget.stamp) × (peak (all_moves (run_for t packets last journal)) ≡ kept_peak (book_steps s.book) 0 0)
         × (all_looks (run_for t packets last journal) ≡ flat_map (λ (entry : CoreEntry). looks_in entry.entry) s.book)

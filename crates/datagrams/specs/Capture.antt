@@ -6,10 +6,11 @@ use Rattle.streamdefs.specs.Lists.{Each}
 use Rattle.streamdefs.specs.Marks.{Marks}
 use Rattle.streamdefs.specs.Packet.{Packet, is_tcp}
 use Rattle.streamdefs.specs.Terms.{Terms}
+use Rattle.streamdefs.specs.Accounts.{IsAccounted}
 use Rattle.streamdefs.specs.Totals.{peak, refused}
 use Rattle.streamdefs.specs.Lawful.{Lawful, Run}
 use Rattle.streamdefs.specs.Order.{OneHistory, all_looks, all_moves}
-use Rattle.streamdefs.specs.Report.{Outcome, RecordCounts, budget_line, records_line, status_line, total_lines}
+use Rattle.streamdefs.specs.Report.{Outcome, RecordCounts, budget_line, records_line, status_line, tallied_in, total_lines, totals_in}
 use Rattle.streamdefs.specs.WorkerText.{worker_text}
 use Rattle.streamdefs.specs.Case.{run_of}
 use Rattle.datagrams.specs.declared.conversation.Conversation.{Conversation}
@@ -47,11 +48,13 @@ text_of run = worker_text run (first run.served)
     first [] = []
     first (list ∷ lists) = list
 
--- The journal is lawful for these packets, and one history of its budget; the text is that of the worker's events; the lines of
--- the report behind the journal are those of the conversations and of the budget's numbers.
+-- The journal is lawful for these packets, and one history of its budget; each byte that came in a direction is delivered once
+-- or counted once; the text is that of the worker's events; the lines of the report behind the journal are those of the
+-- conversations and of the budget's numbers.
 pub record IsReplay (t : Terms) (packets : List Packet) (last : ℕ) (journal : Journal) (text : List ℕ) (table : List Conversation) (stamps peak_ refused_ : ℕ) : Type 0 where
   pub lawful : Lawful (run_for t packets last journal)
   pub history : OneHistory (run_for t packets last journal)
+  pub accounted : Each IsAccounted (totals_in (tallied_in (run_for t packets last journal)))
   pub text_is : text_of (run_for t packets last journal) ≡ text
   pub one_core : length journal.cores ≡ 1
   pub one_worker : length journal.workers ≡ 1

@@ -119,8 +119,8 @@ fn end_one(alloc: Global, replay: &mut Replay, place: usize, last: u64) -> Resul
     replay.end_at(alloc, place, conv, last)
 }
 
-/// Ends all conversations, and answers what then waits.
-pub(crate) fn end_all(alloc: Global, replay: &mut Replay, last: u64) -> Result<(), Memory>
+/// Ends each conversation in turn, and answers what then waits.
+fn end_each(alloc: Global, replay: &mut Replay, last: u64) -> Result<(), Memory>
     ensures calm { OnOk result (replay.new.waiting ≡ []) }
     ensures shut { OnOk result (Each IsShut replay.new.table) }
     ensures stands { (t : Terms) (first : ℕ) (packets done : List Packet) → Stands t last first packets done 0 replay.old → last < first + t.idle
@@ -131,4 +131,16 @@ pub(crate) fn end_all(alloc: Global, replay: &mut Replay, last: u64) -> Result<(
     }
     let waiting = replay.waiting_len();
     answer_many(alloc, replay, waiting)
+}
+
+/// Ends all conversations, once all events of the packets are answered.
+pub(crate) fn end_all(alloc: Global, replay: &mut Replay, last: u64) -> Result<(), Memory>
+    ensures calm { OnOk result (replay.new.waiting ≡ []) }
+    ensures shut { OnOk result (Each IsShut replay.new.table) }
+    ensures stands { (t : Terms) (first : ℕ) (packets done : List Packet) → Stands t last first packets done 0 replay.old → last < first + t.idle
+        → OnOk result (Stands t last first packets done (length replay.new.table) replay.new) }
+{
+    let waiting = replay.waiting_len();
+    answer_many(alloc, replay, waiting)?;
+    end_each(alloc, replay, last)
 }

@@ -1,8 +1,10 @@
 ghost use Rattle.std.specs.Prelude.{◌<◌, length};
 
+use pcapfile::{put_frame, put_head};
 use scap_world::{MemShelf, Memory};
 use std::alloc::{AllocError, Global};
 use std::process::Abort;
+use std::test::Fail;
 
 // One record at 1 s and 5 us: Ethernet, IPv4 from 10.0.0.1 to 10.0.0.2, UDP from port 5000 to port 53, "hi".
 pub(crate) const ONE: [u8; 84] = [
@@ -18,7 +20,7 @@ pub(crate) const DELIVERY: &str =
     "new 1 udp 10.0.0.1 5000 10.0.0.2 53\ndata 1 > 0 0 0 0 6869\nend 1 finish\n";
 
 pub(crate) const REPORT: &str =
-    "scap report 1\ncores 1 workers 1\ndir 1 > 2 2 0 0 0 0 0 0\ndir 1 < 0 0 0 0 0 0 0 0\nrecords 1 accepted 1 filtered 0 other 0 fragment 0 short 0\nbytes payload 2 delivered 2 duplicate 0 late 0 cut 0 shed 0\nstatus 0\n";
+    "scap report 1\ncores 1 workers 1\ncore 0\nseg 1 1 1000005000 +2@0:0\nans 1 1 .\nend 1 1000005000 finish\nans 1 2 . ~2@1\nans 1 3 .\nworker 0\nfrom 0 3\ndir 1 > 2 2 0 0 0 0 0 0\ndir 1 < 0 0 0 0 0 0 0 0\nrecords 1 accepted 1 filtered 0 other 0 fragment 0 short 0\nbytes payload 2 delivered 2 duplicate 0 late 0 cut 0 shed 0\nbudget stamps 2 peak 2 refused 0\nstatus 0\n";
 
 pub(crate) const WORDS: [&str; 4] = ["scaplab", "drill", "cap", "out"];
 
@@ -39,41 +41,35 @@ pub(crate) fn changed(alloc: Global, changes: &[(usize, u8)]) -> Result<Vec<u8>,
     Ok(bytes)
 }
 
+/// The file header of a capture.
+pub(crate) fn opened(alloc: Global) -> Result<Vec<u8>, pcapfile::Memory> {
+    let mut capture = Vec::new(alloc);
+    put_head(&mut capture)?;
+    Ok(capture)
+}
+
 /// Appends the record of a datagram: its second, the last byte of the address and the port of its source and its target.
 pub(crate) fn put_record(
     capture: &mut Vec<u8>,
-    second: u8,
-    source: (u8, u8),
-    target: (u8, u8),
+    alloc: Global,
+    second: u32,
+    source: (u8, u16),
+    target: (u8, u16),
     payload: &[u8],
-) -> Result<(), AllocError>
-    requires { length payload.now < 100 }
+) -> Result<(), Fail>
+    requires { length payload.now < 60_000 }
 {
-    let n = payload.len() as u8;
-    let record = [
-        second,
-        0,
-        0,
-        0,
-        0,
-        0,
-        0,
-        0,
-        42 + n,
-        0,
-        0,
-        0,
-        42 + n,
-        0,
-        0,
-        0,
-    ];
-    capture.extend_from_slice(&record)?;
-    capture.extend_from_slice(&ONE[40..54])?;
-    capture.extend_from_slice(&[0x45, 0, 0, 28 + n, 0, 0, 0, 0, 0x40, 0x11, 0, 0])?;
-    capture.extend_from_slice(&[10, 0, 0, source.0, 10, 0, 0, target.0])?;
-    capture.extend_from_slice(&[0, source.1, 0, target.1, 0, 8 + n, 0, 0])?;
-    capture.extend_from_slice(payload)
+    let mut frame = Vec::from_slice(alloc, &ONE[40..54])?;
+    let total = (28 + payload.len() as u16).to_be_bytes();
+    let size = (8 + payload.len() as u16).to_be_bytes();
+    let from = source.1.to_be_bytes();
+    let to = target.1.to_be_bytes();
+    frame.extend_from_slice(&[0x45, 0, total[0], total[1], 0, 0, 0, 0, 0x40, 0x11, 0, 0])?;
+    frame.extend_from_slice(&[10, 0, 0, source.0, 10, 0, 0, target.0])?;
+    frame.extend_from_slice(&[from[0], from[1], to[0], to[1], size[0], size[1], 0, 0])?;
+    frame.extend_from_slice(payload)?;
+    put_frame(capture, second, 0, &frame)?;
+    Ok(())
 }
 
 pub(crate) fn expect_files(

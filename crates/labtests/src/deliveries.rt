@@ -1,7 +1,7 @@
 ghost use Rattle.std.specs.Prelude.{◌<◌};
 
 use crate::captures::{
-    DELIVERY, ONE, REPORT, WORDS, changed, expect_files, put_record, shelf_with,
+    DELIVERY, ONE, REPORT, WORDS, changed, expect_files, opened, put_record, shelf_with,
 };
 use labtop::{Status, lab_top};
 use scap_world::{MemShelf, Memory};
@@ -48,7 +48,7 @@ fn an_empty_capture_gives_an_empty_delivery_file(rt: HostRuntime) -> Result<(), 
     let done = lab_top(alloc, &WORDS, &mut shelf);
     assert_eq!(rt; done.status, Status::Done);
     let report =
-        "scap report 1\ncores 1 workers 1\nrecords 0 accepted 0 filtered 0 other 0 fragment 0 short 0\nbytes payload 0 delivered 0 duplicate 0 late 0 cut 0 shed 0\nstatus 0\n";
+        "scap report 1\ncores 1 workers 1\ncore 0\nworker 0\nrecords 0 accepted 0 filtered 0 other 0 fragment 0 short 0\nbytes payload 0 delivered 0 duplicate 0 late 0 cut 0 shed 0\nbudget stamps 0 peak 0 refused 0\nstatus 0\n";
     expect_files(&rt, &shelf, Some(""), Some(report));
     Ok(())
 }
@@ -56,26 +56,27 @@ fn an_empty_capture_gives_an_empty_delivery_file(rt: HostRuntime) -> Result<(), 
 #[test]
 fn conversations_are_told_apart_by_their_ends(rt: HostRuntime) -> Result<(), Fail> {
     let alloc = rt.alloc();
-    let mut capture = Vec::from_slice(alloc, &ONE[..24])?;
-    put_record(&mut capture, 1, (2, 50), (3, 53), b"ab")?;
-    put_record(&mut capture, 1, (3, 53), (2, 50), b"xyz")?;
-    put_record(&mut capture, 1, (2, 50), (3, 53), b"")?;
+    let mut capture = opened(alloc)?;
+    put_record(&mut capture, alloc, 1, (2, 50), (3, 53), b"ab")?;
+    put_record(&mut capture, alloc, 1, (3, 53), (2, 50), b"xyz")?;
+    put_record(&mut capture, alloc, 1, (2, 50), (3, 53), b"")?;
     // Its key comes before that of the first conversation.
-    put_record(&mut capture, 2, (2, 50), (1, 7), b"q")?;
-    put_record(&mut capture, 2, (2, 50), (3, 53), b"c")?;
-    put_record(&mut capture, 2, (3, 53), (2, 50), b"w")?;
+    put_record(&mut capture, alloc, 2, (2, 50), (1, 7), b"q")?;
+    put_record(&mut capture, alloc, 2, (2, 50), (3, 53), b"c")?;
+    put_record(&mut capture, alloc, 2, (3, 53), (2, 50), b"w")?;
     // The same addresses with another port, and no payload.
-    put_record(&mut capture, 3, (3, 54), (2, 50), b"")?;
+    put_record(&mut capture, alloc, 3, (3, 54), (2, 50), b"")?;
     // Both ends are the same.
-    put_record(&mut capture, 3, (9, 9), (9, 9), b"e")?;
-    put_record(&mut capture, 3, (9, 9), (9, 9), b"f")?;
+    put_record(&mut capture, alloc, 3, (9, 9), (9, 9), b"e")?;
+    put_record(&mut capture, alloc, 3, (9, 9), (9, 9), b"f")?;
     let mut shelf = shelf_with(alloc, &capture)?;
     let done = lab_top(alloc, &WORDS, &mut shelf);
     assert_eq!(rt; done.status, Status::Done);
+    assert_eq!(rt; done.journal.cores.as_slice().len(), 1);
     let delivery =
-        "new 1 udp 10.0.0.2 50 10.0.0.3 53\ndata 1 > 0 0 0 0 6162\ndata 1 < 0 0 0 0 78797a\nnew 4 udp 10.0.0.2 50 10.0.0.1 7\ndata 4 > 0 0 0 0 71\ndata 1 > 2 0 0 0 63\ndata 1 < 3 0 0 0 77\nnew 7 udp 10.0.0.3 54 10.0.0.2 50\nnew 8 udp 10.0.0.9 9 10.0.0.9 9\ndata 8 > 0 0 0 0 65\ndata 8 > 1 0 0 0 66\nend 1 finish\nend 4 finish\nend 7 finish\nend 8 finish\n";
+        "new 1 udp 10.0.0.2 50 10.0.0.3 53\nnew 4 udp 10.0.0.2 50 10.0.0.1 7\nnew 7 udp 10.0.0.3 54 10.0.0.2 50\nnew 8 udp 10.0.0.9 9 10.0.0.9 9\ndata 1 > 0 0 0 0 616263\ndata 1 < 0 0 0 0 78797a77\nend 1 finish\ndata 4 > 0 0 0 0 71\nend 4 finish\nend 7 finish\ndata 8 > 0 0 0 0 6566\nend 8 finish\n";
     let report =
-        "scap report 1\ncores 1 workers 1\ndir 1 > 3 3 0 0 0 0 0 0\ndir 1 < 4 4 0 0 0 0 0 0\ndir 4 > 1 1 0 0 0 0 0 0\ndir 4 < 0 0 0 0 0 0 0 0\ndir 7 > 0 0 0 0 0 0 0 0\ndir 7 < 0 0 0 0 0 0 0 0\ndir 8 > 2 2 0 0 0 0 0 0\ndir 8 < 0 0 0 0 0 0 0 0\nrecords 9 accepted 9 filtered 0 other 0 fragment 0 short 0\nbytes payload 10 delivered 10 duplicate 0 late 0 cut 0 shed 0\nstatus 0\n";
+        "scap report 1\ncores 1 workers 1\ncore 0\nseg 1 1 1000000000 +2@0:0\nans 1 1 .\nseg 1 2 1000000000 +3@1:2\nseg 1 3 1000000000\nseg 4 4 2000000000 +1@2:5\nans 4 2 .\nseg 1 5 2000000000 +1@3:6\nseg 1 6 2000000000 +1@4:7\nseg 7 7 3000000000\nans 7 3 .\nseg 8 8 3000000000 +1@5:8\nans 8 4 .\nseg 8 9 3000000000 +1@6:9\nend 1 3000000000 finish\nend 4 3000000000 finish\nend 7 3000000000 finish\nend 8 3000000000 finish\nans 1 5 . ~2@7 ~1@8\nans 1 6 . ~3@9 ~1@10\nans 1 7 .\nans 4 8 . ~1@11\nans 4 9 .\nans 7 10 .\nans 8 11 . ~1@12 ~1@13\nans 8 12 .\nworker 0\nfrom 0 12\ndir 1 > 3 3 0 0 0 0 0 0\ndir 1 < 4 4 0 0 0 0 0 0\ndir 4 > 1 1 0 0 0 0 0 0\ndir 4 < 0 0 0 0 0 0 0 0\ndir 7 > 0 0 0 0 0 0 0 0\ndir 7 < 0 0 0 0 0 0 0 0\ndir 8 > 2 2 0 0 0 0 0 0\ndir 8 < 0 0 0 0 0 0 0 0\nrecords 9 accepted 9 filtered 0 other 0 fragment 0 short 0\nbytes payload 10 delivered 10 duplicate 0 late 0 cut 0 shed 0\nbudget stamps 14 peak 10 refused 0\nstatus 0\n";
     expect_files(&rt, &shelf, Some(delivery), Some(report));
     Ok(())
 }

@@ -45,13 +45,13 @@ fn a_fault_of_creating_or_writing_leaves_a_front(rt: HostRuntime) -> Result<(), 
     let (status, shelf) = run_with_fault(alloc, "out.report", FailCall::Create, 1)?;
     assert_eq!(rt; status, Status::WriteFault);
     expect_files(&rt, &shelf, Some(DELIVERY), None);
-    // The delivery file has 71 bytes, so it is written in 5 pieces; the report has 208, so it is written in 13.
+    // The delivery file has 71 bytes, so it is written in 5 pieces; the report has 351, so it is written in 22.
     for nth in 1..6u32 {
         let (status, shelf) = run_with_fault(alloc, "out.0", FailCall::Write, nth)?;
         assert_eq!(rt; status, Status::WriteFault, "write {nth}");
         expect_files(&rt, &shelf, DELIVERY.get(..16 * (nth as usize - 1)), None);
     }
-    for nth in 1..14u32 {
+    for nth in 1..23u32 {
         let (status, shelf) = run_with_fault(alloc, "out.report", FailCall::Write, nth)?;
         assert_eq!(rt; status, Status::WriteFault, "write {nth}");
         expect_files(
@@ -61,7 +61,7 @@ fn a_fault_of_creating_or_writing_leaves_a_front(rt: HostRuntime) -> Result<(), 
             REPORT.get(..16 * (nth as usize - 1)),
         );
     }
-    for (name, nth) in [("out.0", 6), ("out.report", 14)] {
+    for (name, nth) in [("out.0", 6), ("out.report", 23)] {
         let (status, shelf) = run_with_fault(alloc, name, FailCall::Write, nth)?;
         assert_eq!(rt; status, Status::Done, "{name}");
         expect_files(&rt, &shelf, Some(DELIVERY), Some(REPORT));
@@ -78,7 +78,7 @@ fn a_file_that_is_not_finished_is_a_write_fault(rt: HostRuntime) -> Result<(), F
     expect_files(&rt, &shelf, DELIVERY.get(..35), None);
     let (status, shelf) = run_with_fault(alloc, "out.report", FailCall::Finish, 1)?;
     assert_eq!(rt; status, Status::WriteFault);
-    expect_files(&rt, &shelf, Some(DELIVERY), REPORT.get(..104));
+    expect_files(&rt, &shelf, Some(DELIVERY), REPORT.get(..175));
     Ok(())
 }
 

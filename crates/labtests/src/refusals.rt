@@ -1,4 +1,4 @@
-use crate::captures::{ONE, WORDS, changed, expect_files, put_record, shelf_with};
+use crate::captures::{ONE, WORDS, changed, expect_files, opened, put_record, shelf_with};
 use labtop::{Status, lab_top};
 use pcapfile::HeadFault;
 use std::test::Fail;
@@ -14,11 +14,11 @@ fn a_conversation_that_could_end_before_the_capture_is_not_built(
         ([0x2c, 1, 0, 0, 0x3f, 0x42, 0x0f, 0], Status::Done),
     ];
     for (moment, status) in cases {
-        let mut capture = Vec::from_slice(alloc, &ONE[..24])?;
-        put_record(&mut capture, 1, (2, 50), (3, 53), b"ab")?;
+        let mut capture = opened(alloc)?;
+        put_record(&mut capture, alloc, 1, (2, 50), (3, 53), b"ab")?;
         capture.extend_from_slice(&moment)?;
         capture.extend_from_slice(&ONE[32..])?;
-        put_record(&mut capture, 2, (2, 50), (3, 53), b"cd")?;
+        put_record(&mut capture, alloc, 2, (2, 50), (3, 53), b"cd")?;
         let mut shelf = shelf_with(alloc, &capture)?;
         let done = lab_top(alloc, &WORDS, &mut shelf);
         assert_eq!(rt; done.status, status);

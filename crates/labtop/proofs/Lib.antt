@@ -1,11 +1,10 @@
-pub mod ConversationsLemmas
-pub mod DeliverLemmas
 pub mod DrillLemmas
 pub mod FilesLemmas
 pub mod FramesLemmas
 pub mod HeadLemmas
 pub mod PacketsLemmas
 pub mod ReadLemmas
-pub mod StandingLemmas
 pub mod VerdictLemmas
 pub mod WordsLemmas
+pub mod OutcomeLemmas
+pub mod TotalsLemmas

@@ -5,14 +5,15 @@ use Rattle.std.proofs.lemmas.List.{at_drop_more, at_drop_all, map_push}
 use Rattle.std.proofs.lemmas.List.Sums.{sum_by-cons}
 use Rattle.streamkey.specs.declared.addr.Addr.{Addr}
 use Rattle.pcapfile.specs.declared.frame.Frame.{Frame}
-use Rattle.labtop.specs.declared.packet.UdpPacket.{UdpPacket}
+use Rattle.datagrams.specs.declared.datagram.Datagram.{Datagram}
 use Rattle.labtop.specs.declared.capture.TheConstants.{IDLE}
 use Rattle.labtop.specs.declared.transport.Skip.TheVariants as skip
 use Rattle.labtop.specs.Linkip.{Carried, Ip, Fragment, Other, Short, Unread, ipv4, network, declared_length, header_length, is_short, is_fragment, short_at, is_transport}
 use Rattle.labtop.specs.Porthdr.{Kind, Accepted, Skipped, Later, udp, transport, kind_of, datagram_length}
-use Rattle.labtop.specs.Scapconf.{Packet, accepted_at, packets_from}
-use Rattle.labtop.specs.Drill.{is_long, last_clock}
-use Rattle.labtop.specs.Views.{packet_view}
+use Rattle.streamdefs.specs.Packet.{Packet}
+use Rattle.labtop.specs.Scapconf.{accepted_at, last_clock, packets_from}
+use Rattle.labtop.specs.Drill.{is_long}
+use Rattle.datagrams.specs.Capture.{packet_for}
 
 -- packets in front of those that follow
 abbrev pub behind : List Packet → Option (List Packet) → Option (List Packet)
@@ -35,16 +36,16 @@ behind-push found packet None = refl
 behind-push found packet (Some packets) = ap Some (sym (append_assoc found (packet ∷ []) packets))
 
 -- one more packet
-pub packets_from-push : (n c now : ℕ) (frames : List Frame) (i : ℕ) (frame : Frame) (found items : List UdpPacket) (packet : UdpPacket) → now ≡ max c frame.moment → i < length frames → frame ≡ get_or frames i frame
-    → Some (packet_view packet) ≡ accepted_at n now (kind_of frame.bytes) → items ≡ found ++ packet ∷ []
-    → behind (map packet_view found) (packets_from n c (drop i frames)) ≡ behind (map packet_view items) (packets_from (n + 1) now (drop (i + 1) frames))
+pub packets_from-push : (n c now : ℕ) (frames : List Frame) (i : ℕ) (frame : Frame) (found items : List Datagram) (packet : Datagram) → now ≡ max c frame.moment → i < length frames → frame ≡ get_or frames i frame
+    → Some (packet_for packet) ≡ accepted_at n now (kind_of frame.bytes) → items ≡ found ++ packet ∷ []
+    → behind (map packet_for found) (packets_from n c (drop i frames)) ≡ behind (map packet_for items) (packets_from (n + 1) now (drop (i + 1) frames))
 packets_from-push n c now frames i frame found items packet later inside same is more =
     let rest : ℕ → Option (List Packet) = λ clock. packets_from (n + 1) clock (drop (i + 1) frames) in
     let first : ℕ → Option Packet = λ clock. accepted_at n clock (kind_of frame.bytes) in
-    ap (behind (map packet_view found)) (packets_from-drop n c frames i frame inside same ∙ ap (λ (clock : ℕ). from_packet (first clock) (rest clock)) (sym later)
+    ap (behind (map packet_for found)) (packets_from-drop n c frames i frame inside same ∙ ap (λ (clock : ℕ). from_packet (first clock) (rest clock)) (sym later)
     ∙ ap (λ (packet : Option Packet). from_packet packet (rest now)) (sym is))
-    ∙ behind-push (map packet_view found) (packet_view packet) (rest now)
-    ∙ ap (λ (packets : List Packet). behind packets (rest now)) (sym (map_push packet_view found packet) ∙ ap (map packet_view) (sym more))
+    ∙ behind-push (map packet_for found) (packet_for packet) (rest now)
+    ∙ ap (λ (packets : List Packet). behind packets (rest now)) (sym (map_push packet_for found packet) ∙ ap (map packet_for) (sym more))
 
 -- a record without a packet
 pub packets_from-none : (n c now : ℕ) (frames : List Frame) (i : ℕ) (frame : Frame) (found : List Packet) → now ≡ max c frame.moment → i < length frames → frame ≡ get_or frames i frame
@@ -69,7 +70,7 @@ body_len Short = 0
 body_len Unread = 0
 
 abbrev payload_len : Kind → ℕ
-payload_len (Accepted key toward payload) = length payload
+payload_len (Accepted key toward declared payload) = length payload
 payload_len (Skipped skip) = 0
 payload_len Later = 0
 
@@ -129,7 +130,7 @@ payloads None = 0
 payloads (Some packets) = sum_by (λ p. length p.payload) packets
 
 accepted_at-len : (n c : ℕ) (kind : Kind) → first_len (accepted_at n c kind) ≡ payload_len kind
-accepted_at-len n c (Accepted key toward payload) = refl
+accepted_at-len n c (Accepted key toward declared payload) = refl
 accepted_at-len n c (Skipped skip) = refl
 accepted_at-len n c Later = refl
 
@@ -153,22 +154,26 @@ pub packets_from-fits : (n c : ℕ) (frames : List Frame) (packets : List Packet
 packets_from-fits n c frames packets same = subst (λ (o : Option (List Packet)). payloads o ≤ sum_by (λ f. length f.bytes) frames) (sym same) (payloads-fit n c frames)
 
 -- what the code holds of payloads
-pub payloads-view : (xs : List UdpPacket) → sum_by (λ p. length p.payload.now) xs ≡ sum_by (λ p. length p.payload) (map packet_view xs)
+pub payloads-view : (xs : List Datagram) → sum_by (λ p. length p.payload.now) xs ≡ sum_by (λ p. length p.payload) (map packet_for xs)
 payloads-view [] = refl
-payloads-view (x ∷ xs) = omega (arith, sum_by-cons (λ (p : UdpPacket). length p.payload.now) x xs, sum_by-cons (λ (p : Packet). length p.payload) (packet_view x) (map packet_view xs), payloads-view xs)
+payloads-view (x ∷ xs) = omega (arith, sum_by-cons (λ (p : Datagram). length p.payload.now) x xs, sum_by-cons (λ (p : Packet). length p.payload) (packet_for x) (map packet_for xs), payloads-view xs)
 
 -- the last packet's clock
-last_clock-at : (c : ℕ) (xs : List UdpPacket) (n : ℕ) (last : UdpPacket) → length xs ≡ n + 1 → last ≡ get_or xs n last → last_clock c (map packet_view xs) ≡ last.clock
+pub last_clock-at : (c : ℕ) (xs : List Datagram) (n : ℕ) (last : Datagram) → length xs ≡ n + 1 → last ≡ get_or xs n last → last_clock c (map packet_for xs) ≡ last.clock
 last_clock-at c [] n last h same = absurd (omega arith)
-last_clock-at c (x ∷ []) zero last h same = ap (λ (p : UdpPacket). p.clock) (sym same)
+last_clock-at c (x ∷ []) zero last h same = ap (λ (p : Datagram). p.clock) (sym same)
 last_clock-at c (x ∷ []) (suc n) last h same = absurd (omega arith)
 last_clock-at c (x ∷ y ∷ xs) zero last h same = absurd (omega arith)
 last_clock-at c (x ∷ y ∷ xs) (suc n) last h same = last_clock-at x.clock (y ∷ xs) n last (omega arith) same
 
 -- the first and the last packet decide
-pub is_long-at : (xs : List UdpPacket) (n : ℕ) (first last : UdpPacket) → length xs ≡ n + 1 → first ≡ get_or xs 0 first → last ≡ get_or xs n last
-    → is_long (map packet_view xs) ≡ nat_le (first.clock + IDLE) last.clock
+pub is_long-at : (xs : List Datagram) (n : ℕ) (first last : Datagram) → length xs ≡ n + 1 → first ≡ get_or xs 0 first → last ≡ get_or xs n last
+    → is_long (map packet_for xs) ≡ nat_le (first.clock + IDLE) last.clock
 is_long-at [] n first last h begins ends = absurd (omega arith)
 is_long-at (x ∷ xs) n first last h begins ends =
     ap (λ (clock : ℕ). nat_le (x.clock + IDLE) clock) (last_clock-at x.clock (x ∷ xs) n last h ends)
-    ∙ ap (λ (p : UdpPacket). nat_le (p.clock + IDLE) last.clock) (sym begins)
+    ∙ ap (λ (p : Datagram). nat_le (p.clock + IDLE) last.clock) (sym begins)
+
+pub last_clock-none : (xs : List Datagram) → length xs ≡ 0 → last_clock 0 (map packet_for xs) ≡ 0
+last_clock-none [] h = refl
+last_clock-none (x ∷ xs) h = absurd (omega arith)

@@ -3,6 +3,7 @@ use Rattle.std.specs.Prelude.{Option, Result, Ok, Err, not, ◌||◌}
 use Rattle.std.proofs.lemmas.Bool.{cases_lt}
 use Rattle.std.proofs.lemmas.Bool.Decides.{nat_tests}
 use Rattle.std.proofs.lemmas.List.{take_all, take-append-drop}
+use Rattle.prio_budget.specs.MarkParts.{MarkParts}
 use Rattle.pcapfile.specs.declared.head.FileHead.{FileHead}
 use Rattle.pcapfile.specs.declared.head_fault.HeadFault.{HeadFault}
 use Rattle.pcapfile.specs.declared.frame.Frame.{Frame}
@@ -26,8 +27,8 @@ verdict_of_frames bytes head o rest h built small behind same =
     ∙ ap (λ (r : List ℕ). of_frames (whole_of (records_from (suc (suc (length bytes))) head limits 24 0 r))) (sym behind)
     ∙ ap of_frames (sym same)
 
-pub gives_at : (r : Result Outcome Status) (v w : Verdict) → v ≡ w → Gives r w → Gives r v
-gives_at r v w e h = subst (λ (x : Verdict). Gives r x) (sym e) h
+pub gives_at : (m : MarkParts) (r : Result Outcome Status) (v w : Verdict) → v ≡ w → Gives m r w → Gives m r v
+gives_at m r v w e h = subst (λ (x : Verdict). Gives m r x) (sym e) h
 
 -- of a file with more bytes than are built the head alone decides
 abbrev of_long : Result FileHead HeadFault → Verdict

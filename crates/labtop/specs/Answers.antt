@@ -2,8 +2,10 @@ use Rattle.std.specs.Prelude.{ℕ, ◌≡◌, ◌⊎◌, List, take, Option, Som
 use Rattle.scap_world.specs.Files.{File, told_file, told_put}
 use Rattle.labtop.specs.declared.status.Status.{Status}
 use Rattle.labtop.specs.declared.status.Status.TheVariants.{Done, Memory, Usage, ReadFault, WriteFault, NotPcap, Unbuilt}
-use Rattle.labtop.specs.Convo.{delivery_text}
-use Rattle.labtop.specs.Report.{report_text}
+use Rattle.histbook.specs.declared.journal.Journal.{Journal}
+use Rattle.prio_budget.specs.MarkParts.{MarkParts}
+use Rattle.streamdefs.specs.Packet.{Packet}
+use Rattle.labtop.specs.Headline.{IsRun, delivery_for, report_for}
 use Rattle.labtop.specs.Names.{delivery_name, report_name}
 use Rattle.labtop.specs.Drill.{Verdict, Delivers, Refused, NotBuilt}
 
@@ -37,23 +39,29 @@ AllowsUnread WriteFault = ⊥
 AllowsUnread (NotPcap kind) = ⊥
 AllowsUnread Unbuilt = ⊥
 
--- the files after a run that is done
-abbrev pub written : Verdict → List ℕ → Option (List File) → Option (List File)
-written (Delivers packets) out files = told_put (report_name out) (report_text packets) (told_put (delivery_name out) (delivery_text packets) files)
-written (Refused fault) out files = files
-written NotBuilt out files = files
+-- a run that is done: its journal is lawful for the capture's packets, and its two files are the texts of the journal
+abbrev pub IsDone : MarkParts → Verdict → List ℕ → Journal → Option (List File) → Option (List File) → Type 0
+IsDone marks (Delivers packets) out journal old new =
+    IsRun marks packets journal × (new ≡ told_put (report_name out) (report_for marks packets journal) (told_put (delivery_name out) (delivery_for marks packets journal) old))
+IsDone marks (Refused fault) out journal old new = ⊥
+IsDone marks NotBuilt out journal old new = ⊥
 
 -- a file is as it was, or holds a front of its text
 abbrev pub IsPart : List ℕ → Option (List ℕ) → Option (List ℕ) → Type 0
 IsPart text old new = (new ≡ old) ⊎ ((n : ℕ) × (new ≡ Some (take n text)))
 
+-- each of the two files is as it was, or holds a front of its text by a journal that is lawful for the packets
+pub record ArePartsOf (marks : MarkParts) (packets : List Packet) (out : List ℕ) (old new : Option (List File)) : Type 0 where
+  pub journal : Journal
+  pub run : IsRun marks packets journal
+  pub delivery : IsPart (delivery_for marks packets journal) (told_file old (delivery_name out)) (told_file new (delivery_name out))
+  pub report : IsPart (report_for marks packets journal) (told_file old (report_name out)) (told_file new (report_name out))
+
 -- the files after a run, whatever its status
-abbrev pub LeavesParts : Verdict → List ℕ → Option (List File) → Option (List File) → Type 0
-LeavesParts (Delivers packets) out old new =
-    IsPart (delivery_text packets) (told_file old (delivery_name out)) (told_file new (delivery_name out))
-    × IsPart (report_text packets) (told_file old (report_name out)) (told_file new (report_name out))
-LeavesParts (Refused fault) out old new = new ≡ old
-LeavesParts NotBuilt out old new = new ≡ old
+abbrev pub LeavesParts : MarkParts → Verdict → List ℕ → Option (List File) → Option (List File) → Type 0
+LeavesParts marks (Delivers packets) out old new = (new ≡ old) ⊎ ArePartsOf marks packets out old new
+LeavesParts marks (Refused fault) out old new = new ≡ old
+LeavesParts marks NotBuilt out old new = new ≡ old
 
 -- the statuses that leave every file as it was
 abbrev pub IsBefore : Status → Type 0
@@ -64,3 +72,9 @@ IsBefore Usage = Unit {0}
 IsBefore ReadFault = Unit {0}
 IsBefore (NotPcap kind) = Unit {0}
 IsBefore Unbuilt = Unit {0}
+
+-- where packets are delivered and no fault was counted, the run is done, or there was no memory
+abbrev pub Completes : Verdict → Status → Type 0
+Completes (Delivers packets) status = (status ≡ Done) ⊎ (status ≡ Memory)
+Completes (Refused fault) status = Unit {0}
+Completes NotBuilt status = Unit {0}

@@ -6,7 +6,8 @@ use Rattle.pcapfile.specs.declared.link.Link.TheVariants.{Ethernet, Raw, Cooked,
 use Rattle.pcapfile.specs.declared.frame.Frame.{Frame}
 use Rattle.pcapfile.specs.Capture.{Limits, End, Whole, Cut, TooBig, TooLong, Records, capture_of}
 use Rattle.labtop.specs.declared.capture.TheConstants.{MOST_FRAMES, MOST_BYTES, MOST_BUILT, IDLE}
-use Rattle.labtop.specs.Scapconf.{Packet, packets_from}
+use Rattle.streamdefs.specs.Packet.{Packet}
+use Rattle.labtop.specs.Scapconf.{last_clock, packets_from}
 
 -- docs/RULES.md, "Answers".
 
@@ -39,15 +40,10 @@ whole_in frames TooLong = None
 unfoldable pub whole_of : Records → Option (List Frame)
 whole_of records = whole_in records.frames records.end
 
--- the clock of the last packet
-abbrev pub last_clock : ℕ → List Packet → ℕ
-last_clock clock [] = clock
-last_clock clock (p ∷ packets) = last_clock p.clock packets
-
 -- whether a conversation could end before the capture does: the last clock is past the first one by the idle time
 abbrev pub is_long : List Packet → Bool
 is_long [] = false
-is_long (p ∷ packets) = nat_le (p.clock + IDLE) (last_clock p.clock packets)
+is_long (p ∷ packets) = nat_le (p.now + IDLE) (last_clock p.now packets)
 
 -- of the packets of all records, where each record is accepted
 abbrev pub of_packets : Option (List Packet) → Verdict

@@ -1,12 +1,8 @@
 pub mod Linkip
 pub mod Porthdr
 pub mod Scapconf
-pub mod Handler
-pub mod Tally
-pub mod Convo
-pub mod Report
-pub mod Standing
-pub mod Laws
+pub mod Settings
+pub mod Headline
 pub mod Drill
 pub mod Names
 pub mod Words
@@ -15,4 +11,5 @@ pub mod Causes
 pub mod Answers
 pub mod Views
 pub mod Gives
+pub mod ReportLines
 pub mod Rows

@@ -11,14 +11,15 @@ use Rattle.labtop.specs.Linkip.{Carried, Ip, Fragment, Other, Short, Unread, sho
 
 -- docs/FORMATS.md, "Headers".
 
--- what a record is: a packet with its key, its way and its payload, or one that is skipped. `Later` are those that are not read yet
+-- what a record is: a packet with its key, its way, the length that its headers declare for its payload, and what was captured of
+-- that; or one that is skipped. `Later` are those that are not read yet
 pub data Kind : Type 0 where
-  Accepted : (key : Key) (toward : Toward) (payload : List ℕ) → Kind
+  Accepted : (key : Key) (toward : Toward) (declared : ℕ) (payload : List ℕ) → Kind
   Skipped : Skip → Kind
   Later : Kind
 
-abbrev pub accepted : Key × Toward → List ℕ → Kind
-accepted of payload = Accepted of.0 of.1 payload
+abbrev pub accepted : Key × Toward → ℕ → List ℕ → Kind
+accepted of declared payload = Accepted of.0 of.1 declared payload
 
 -- UDP (RFC 768)
 
@@ -34,7 +35,7 @@ unfoldable pub udp : Addr → Addr → ℕ → List ℕ → Kind
 udp source target declared body =
     if nat_lt (length body) 8 then Skipped skip.Short else
     if not (nat_eq (short_at body 4) 0) && nat_lt (short_at body 4) 8 then Skipped skip.Short else
-    accepted (key_of Udp (end_at source body 0) (end_at target body 2)) (take (datagram_length declared body - 8) (drop 8 body))
+    accepted (key_of Udp (end_at source body 0) (end_at target body 2)) (datagram_length declared body - 8) (take (datagram_length declared body - 8) (drop 8 body))
 
 -- the kind of a record by what its frame carries
 abbrev pub transport : Carried → Kind

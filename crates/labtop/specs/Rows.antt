@@ -1,10 +1,8 @@
 use Rattle.std.specs.Prelude.{ℕ, List, [], ◌∷◌, ◌++◌, codes}
 use Rattle.streamkey.specs.declared.addr.Addr.TheVariants.{V4}
 use Rattle.streamkey.specs.declared.proto.Proto.TheVariants.{Udp}
-use Rattle.streamkey.specs.declared.toward.Toward.TheVariants.{Up, Down}
-use Rattle.streamkey.specs.declared.end.End.{End}
-use Rattle.streamkey.specs.KeyParts.{KeyParts}
-use Rattle.labtop.specs.Scapconf.{Packet}
+use Rattle.streamkey.specs.declared.toward.Toward.TheVariants.{Up}
+use Rattle.streamdefs.specs.Packet.{Packet}
 
 -- small captures, written out by hand
 
@@ -38,32 +36,19 @@ one_datagram = capture_with (0x08 ∷ 0x00 ∷ [])
 abbrev pub its_packet : Packet
 its_packet = record {
   number = 1;
-  clock = 1000005000;
+  now = 1000005000;
   key = record {
     proto = Udp;
     low = record { addr = V4 (10 ∷ 0 ∷ 0 ∷ 1 ∷ []); port = 5000 };
     high = record { addr = V4 (10 ∷ 0 ∷ 0 ∷ 2 ∷ []); port = 53 };
   };
   toward = Up;
+  seq = 0;
+  flags = 0;
+  declared = 2;
   payload = codes "hi";
 }
 
 -- the same frame, said to be IPv6
 abbrev pub said_ipv6 : List ℕ
 said_ipv6 = capture_with (0x86 ∷ 0xdd ∷ [])
-
--- the ends of two conversations
-abbrev pub end_with : (last port : ℕ) → End
-end_with last port = record { addr = V4 (10 ∷ 0 ∷ 0 ∷ last ∷ []); port = port }
-
-abbrev pub key_between : End → End → KeyParts
-key_between low high = record { proto = Udp; low = low; high = high }
-
--- the packets of a capture of four: one more of the first's direction, one back, and an empty one of other ends
-abbrev pub four_packets : List Packet
-four_packets =
-    its_packet
-    ∷ record { number = 2; clock = 1000005000; key = key_between (end_with 1 5000) (end_with 2 53); toward = Up; payload = codes "o" }
-    ∷ record { number = 3; clock = 2000000000; key = key_between (end_with 1 5000) (end_with 2 53); toward = Down; payload = codes "yy" }
-    ∷ record { number = 4; clock = 2000000000; key = key_between (end_with 2 53) (end_with 3 5000); toward = Up; payload = [] }
-    ∷ []

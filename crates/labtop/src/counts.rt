@@ -1,3 +1,5 @@
+use std::marker::Model;
+
 /// How many records there were, by what became of them.
 #[derive(Clone, Copy, Debug, PartialEq, Eq)]
 pub(crate) struct RecordCounts {
@@ -8,9 +10,19 @@ pub(crate) struct RecordCounts {
     pub short: u64,
 }
 
+impl Model for RecordCounts {
+    ghost use Rattle.streamdefs.specs.Report.{RecordCounts};
+
+    ghost Value = { RecordCounts };
+
+    ghost view = { λ c. record { accepted = c.accepted; filtered = c.filtered; other = c.other; fragment = c.fragment; short = c.short } };
+
+    ghost inverse = { λ c. record { accepted = c.accepted; filtered = c.filtered; other = c.other; fragment = c.fragment; short = c.short } };
+}
+
 impl RecordCounts {
     ghost use Rattle.std.specs.Prelude.{◌≡◌, ◌<◌, ◌^◌};
-    ghost use Rattle.labtop.specs.Tally.{records_of};
+    ghost use Rattle.streamdefs.specs.Report.{records_of};
 
     /// The number of all records.
     pub(crate) fn records(&self) -> u64

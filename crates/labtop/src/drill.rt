@@ -4,12 +4,14 @@ ghost use Rattle.scap_world.specs.Causes.{Rose};
 ghost use Rattle.scap_world.specs.Files.{file_of, told_file, told_put};
 ghost use Rattle.labtop.specs.Names.{delivery_name, report_name};
 ghost use Rattle.labtop.specs.Drill.{verdict_of};
-ghost use Rattle.labtop.specs.Answers.{Allows, AllowsUnread, IsBefore, IsPart, LeavesParts, written};
+ghost use Rattle.labtop.specs.Answers.{Allows, AllowsUnread, Completes, IsBefore, IsDone, IsPart, LeavesParts};
+ghost use Rattle.labtop.specs.Headline.{IsEmpty};
 
-use crate::Status;
 use crate::files::{read_capture, write_file};
 use crate::names::{name_of_delivery, name_of_report};
 use crate::outcome::{Outcome, outcome_for};
+use crate::{LabDone, Status};
+use prio_budget::Marks;
 use scap_world::Shelf;
 use std::alloc::{AllocError, Global};
 
@@ -42,34 +44,59 @@ fn write_both<S: Shelf>(
     Ok(())
 }
 
-/// Replays a capture, and writes its files.
-pub(crate) fn drill<S: Shelf>(alloc: Global, capture: &str, out: &str, shelf: &mut S) -> Status
-    ensures verdict { IfSome (told_file (S.files shelf.old) capture.now) (λ bytes. Allows (verdict_of bytes) result) }
-    ensures unread { IfSome (S.files shelf.old) (λ files. IfNone (file_of files capture.now) (AllowsUnread result)) }
+/// Replays a capture under a budget with these marks, and writes its delivery file and its report.
+pub fn drill_run<S: Shelf>(
+    alloc: Global,
+    marks: &Marks,
+    capture: &str,
+    out: &str,
+    shelf: &mut S,
+) -> LabDone
+    // What the capture's bytes ask for is answered, or a fault of the outside.
+    ensures verdict { IfSome (told_file (S.files shelf.old) capture.now) (λ bytes. Allows (verdict_of bytes) result.status) }
+    ensures unread { IfSome (S.files shelf.old) (λ files. IfNone (file_of files capture.now) (AllowsUnread result.status)) }
+    ensures never { result.status ≢ Status.Usage }
+
+    // Where it is done, the journal is lawful, its budget's history is one, and the two files are its texts.
+    ensures done { result.status ≡ Status.Done → IfSome (told_file (S.files shelf.old) capture.now)
+        (λ bytes. IsDone marks.now (verdict_of bytes) out.now result.journal (S.files shelf.old) (S.files shelf.new)) }
+    ensures journal { result.status ≢ Status.Done → IsEmpty result.journal }
+
+    // Whatever the status, an output is as it was or holds a front of its text, and no other file is touched.
     ensures parts { IfSome (told_file (S.files shelf.old) capture.now)
-        (λ bytes. LeavesParts (verdict_of bytes) out.now (S.files shelf.old) (S.files shelf.new)) }
-    ensures done { result ≡ Status.Done → IfSome (told_file (S.files shelf.old) capture.now)
-        (λ bytes. S.files shelf.new ≡ written (verdict_of bytes) out.now (S.files shelf.old)) }
-    ensures before { IsBefore result → S.files shelf.new ≡ S.files shelf.old }
+        (λ bytes. LeavesParts marks.now (verdict_of bytes) out.now (S.files shelf.old) (S.files shelf.new)) }
+    ensures before { IsBefore result.status → S.files shelf.new ≡ S.files shelf.old }
     ensures others { (other : List ℕ) → other ≢ delivery_name out.now → other ≢ report_name out.now
         → told_file (S.files shelf.new) other ≡ told_file (S.files shelf.old) other }
-    ensures read { result ≡ Status.ReadFault → Rose (S.read_faults shelf.old capture.now) (S.read_faults shelf.new capture.now) }
-    ensures write { result ≡ Status.WriteFault
+
+    // A fault was counted where it is answered.
+    ensures read { result.status ≡ Status.ReadFault → Rose (S.read_faults shelf.old capture.now) (S.read_faults shelf.new capture.now) }
+    ensures write { result.status ≡ Status.WriteFault
         → Rose (S.write_faults shelf.old (delivery_name out.now)) (S.write_faults shelf.new (delivery_name out.now))
         ⊎ Rose (S.write_faults shelf.old (report_name out.now)) (S.write_faults shelf.new (report_name out.now)) }
-    ensures never { result ≢ Status.Usage }
+
+    // Where packets are delivered and no fault was counted, it is done, or there was no memory.
+    ensures complete { (Rose (S.read_faults shelf.old capture.now) (S.read_faults shelf.new capture.now) → ⊥)
+        → (Rose (S.write_faults shelf.old (delivery_name out.now)) (S.write_faults shelf.new (delivery_name out.now)) → ⊥)
+        → (Rose (S.write_faults shelf.old (report_name out.now)) (S.write_faults shelf.new (report_name out.now)) → ⊥)
+        → IfSome (told_file (S.files shelf.old) capture.now) (λ bytes. Completes (verdict_of bytes) result.status) }
+
+    // What was opened is ended, and what was created is finished.
     ensures open_files { S.open_files shelf.new ≡ S.open_files shelf.old }
 {
     let bytes = match read_capture(alloc, shelf, capture) {
         Ok(bytes) => bytes,
-        Err(status) => return status,
+        Err(status) => return LabDone::without_report(alloc, status),
     };
-    let outcome = match outcome_for(alloc, &bytes) {
+    let outcome = match outcome_for(alloc, marks, &bytes) {
         Ok(outcome) => outcome,
-        Err(status) => return status,
+        Err(status) => return LabDone::without_report(alloc, status),
     };
     match write_both(alloc, shelf, out, &outcome) {
-        Ok(()) => Status::Done,
-        Err(status) => status,
+        Ok(()) => LabDone {
+            status: Status::Done,
+            journal: outcome.journal,
+        },
+        Err(status) => LabDone::without_report(alloc, status),
     }
 }

@@ -1,17 +1,14 @@
 //! The commands that run in one thread, from the words and the files of a shelf to a status and the files.
 //! Each answer has its cause as a clause of `lab_top`, and the files written are the defined texts of the capture.
-//! Stands on scap_world (the files), pcapfile (the capture), streamkey (keys), byteorder, hex and itoa.
+//! Stands on scap_world (the files), pcapfile (the capture), streamkey (keys), datagrams (the replay), histbook (the journal),
+//! prio_budget (the marks), the definitions of streamdefs, evring, byteorder and itoa.
 #![tactic(auto)]
 
 mod capture;
-mod conversation;
-mod conversations;
 mod counts;
-mod deliver;
 mod drill;
 mod files;
-pub mod laws;
-mod lines;
+mod lab_done;
 mod memory;
 mod names;
 mod network;
@@ -21,14 +18,16 @@ mod packets;
 mod put;
 mod report;
 pub mod rows;
+mod settings;
 mod status;
 mod summary;
-mod sums;
 mod top;
+mod totals;
 mod transport;
-mod way;
 mod words;
 
+pub use drill::drill_run;
+pub use lab_done::LabDone;
 pub use memory::Memory;
 pub use status::Status;
-pub use top::{LabDone, lab_top};
+pub use top::lab_top;

@@ -23,3 +23,15 @@ impl From<pcapfile::Memory> for Memory {
         Memory
     }
 }
+
+impl From<histbook::Memory> for Memory {
+    fn from(_: histbook::Memory) -> Self {
+        Memory
+    }
+}
+
+impl From<datagrams::Memory> for Memory {
+    fn from(_: datagrams::Memory) -> Self {
+        Memory
+    }
+}

@@ -1,7 +1,7 @@
 // The headers of the link and of IP: Ethernet without a tag, and IPv4 (RFC 791).
 ghost use Rattle.std.specs.Prelude.{◌≡◌, ◌+◌, ◌≤◌, length, take, false};
 ghost use Rattle.labtop.specs.Linkip.{short_at, four_at, is_short as says_short, is_fragment as says_fragment, header_length, declared_length, ipv4 as ipv4_of, by_ether_type, network as network_of};
-ghost use Rattle.labtop.specs.Views.{net_view};
+ghost use Rattle.labtop.specs.Views.{declared_in, net_view};
 
 use byteorder::{BigEndian, ByteOrder};
 use streamkey::Addr;
@@ -108,7 +108,8 @@ fn is_fragment(packet: &[u8]) -> bool
 fn declared_size(packet: &[u8]) -> usize
     requires least { 20 ≤ length packet.now }
     requires whole { header_length packet.now ≤ length packet.now }
-    ensures { result ≡ declared_length packet.now }
+    ensures exact { result ≡ declared_length packet.now }
+    ensures bound { result ≤ length packet.now + 65535 }
 {
     let total = short(packet, 2) as usize;
     let all = if total == 0 { packet.len() } else { total };
@@ -118,7 +119,8 @@ fn declared_size(packet: &[u8]) -> usize
 /// What an IPv4 packet carries.
 #[tactic(auto, unfolding(crate::specs::Linkip::ipv4))]
 fn ipv4(packet: &[u8]) -> Net<'_>
-    ensures { net_view result ≡ ipv4_of packet.now }
+    ensures exact { net_view result ≡ ipv4_of packet.now }
+    ensures bound { declared_in (net_view result) ≤ length packet.now + 65535 }
 {
     if is_short(packet) {
         return Net::Short;
@@ -142,7 +144,8 @@ fn ipv4(packet: &[u8]) -> Net<'_>
 }
 
 fn by_type(ether_type: u16, packet: &[u8]) -> Net<'_>
-    ensures { net_view result ≡ by_ether_type ether_type packet.now }
+    ensures exact { net_view result ≡ by_ether_type ether_type packet.now }
+    ensures bound { declared_in (net_view result) ≤ length packet.now + 65535 }
 {
     match ether_type {
         ETHER_TYPE_IPV4 => ipv4(packet),
@@ -154,7 +157,8 @@ fn by_type(ether_type: u16, packet: &[u8]) -> Net<'_>
 /// What an Ethernet frame carries.
 #[tactic(auto, unfolding(crate::specs::Linkip::network))]
 pub(crate) fn network(frame: &[u8]) -> Net<'_>
-    ensures { net_view result ≡ network_of frame.now }
+    ensures exact { net_view result ≡ network_of frame.now }
+    ensures bound { declared_in (net_view result) ≤ length frame.now + 65535 }
 {
     if frame.len() < ETHERNET_HEADER {
         return Net::Short;

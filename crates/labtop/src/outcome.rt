@@ -1,29 +1,54 @@
 // The files of a capture.
-ghost use Rattle.std.specs.Prelude.{◌<◌, ◌^◌, length, sum_by};
+ghost use Rattle.std.specs.Prelude.{ℕ, ◌+◌, ◌<◌, ◌^◌, IfOk, length, map, sum_by};
+ghost use Rattle.datagrams.specs.Capture.{packet_for, IsCapture};
 ghost use Rattle.labtop.specs.Drill.{of_packets, verdict_of};
-ghost use Rattle.labtop.specs.Gives.{Gives};
-ghost use Rattle.labtop.specs.Scapconf.{packets_from};
+ghost use Rattle.labtop.specs.Gives.{Gives, HasTexts};
+ghost use Rattle.labtop.specs.Scapconf.{last_clock, packets_from};
+ghost use Rattle.labtop.specs.Settings.{terms_of};
+ghost use Rattle.labtop.specs.declared.capture.TheConstants.{IDLE};
+ghost use Rattle.streamdefs.specs.Lists.{total};
 
-use crate::Status;
 use crate::capture::{MOST_BUILT, is_known, whole_frames};
-use crate::deliver::delivery;
-use crate::packets::{lasts_long, packets_in};
+use crate::packets::{last_of, lasts_long, packets_in};
+use crate::settings::CHUNK;
 use crate::summary::report;
+use crate::{Memory, Status};
+use datagrams::{Datagram, WholeReplay, replay_all};
+use histbook::Journal;
 use pcapfile::{FileHead, Frame};
+use prio_budget::Marks;
 use std::alloc::Global;
 
-/// The texts of the two files.
+/// The journal of a run, and the texts of its two files.
 #[derive(Drop)]
 pub(crate) struct Outcome {
+    pub journal: Journal,
     pub delivery: Vec<u8>,
     pub report: Vec<u8>,
 }
 
+/// The files of packets.
+fn outcome_with(alloc: Global, marks: &Marks, packets: &[Datagram<'_>]) -> Result<Outcome, Memory>
+    requires { total (λ p. length p.payload.now) packets.now < 2 ^ 32 }
+    ensures { (first : ℕ) → IsCapture (terms_of marks.now) first (map packet_for packets.now) → last_clock 0 (map packet_for packets.now) < first + IDLE
+        → IfOk result (HasTexts marks.now (map packet_for packets.now)) }
+{
+    let last = last_of(packets);
+    let (_, replayed) = replay_all(alloc, marks, CHUNK, packets, last);
+    let whole = replayed?;
+    let report = report(alloc, packets.len() as u64, &whole)?;
+    Ok(Outcome {
+        journal: whole.journal,
+        delivery: whole.text,
+        report,
+    })
+}
+
 /// The files of a capture's records.
-fn outcome_of(alloc: Global, frames: &[Frame]) -> Result<Outcome, Status>
+fn outcome_of(alloc: Global, marks: &Marks, frames: &[Frame]) -> Result<Outcome, Status>
     requires few { length frames.now < 2 ^ 32 }
-    requires fits { sum_by (λ f. length f.bytes) frames.now < 2 ^ 64 }
-    ensures { Gives result (of_packets (packets_from 1 0 frames.now)) }
+    requires fits { sum_by (λ f. length f.bytes) frames.now < 2 ^ 31 }
+    ensures { Gives marks.now result (of_packets (packets_from 1 0 frames.now)) }
 {
     let found = packets_in(alloc, frames)?;
     let Some(packets) = found else {
@@ -32,18 +57,13 @@ fn outcome_of(alloc: Global, frames: &[Frame]) -> Result<Outcome, Status>
     if lasts_long(&packets) {
         return Err(Status::Unbuilt);
     }
-    let delivered = delivery(alloc, &packets)?;
-    let report = report(alloc, &packets, delivered.conversations.as_slice())?;
-    Ok(Outcome {
-        delivery: delivered.text,
-        report,
-    })
+    Ok(outcome_with(alloc, marks, &packets)?)
 }
 
 /// The files of a capture.
 #[tactic(auto, unfolding(crate::specs::Drill::verdict_of))]
-pub(crate) fn outcome_for(alloc: Global, bytes: &[u8]) -> Result<Outcome, Status>
-    ensures { Gives result (verdict_of bytes.now) }
+pub(crate) fn outcome_for(alloc: Global, marks: &Marks, bytes: &[u8]) -> Result<Outcome, Status>
+    ensures { Gives marks.now result (verdict_of bytes.now) }
 {
     let head = match FileHead::read(bytes) {
         Ok(head) => head,
@@ -59,5 +79,5 @@ pub(crate) fn outcome_for(alloc: Global, bytes: &[u8]) -> Result<Outcome, Status
     let Some(frames) = found else {
         return Err(Status::Unbuilt);
     };
-    outcome_of(alloc, &frames)
+    outcome_of(alloc, marks, &frames)
 }

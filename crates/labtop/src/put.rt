@@ -1,8 +1,7 @@
 // Text that is appended to a buffer.
-ghost use Rattle.std.specs.Prelude.{◌≡◌, ◌+◌, ◌*◌, ◌++◌, OnOk, OnErr, length, take};
+ghost use Rattle.std.specs.Prelude.{◌≡◌, ◌++◌, OnOk, OnErr};
 ghost use Rattle.std.specs.Fmt.{decimal};
-ghost use Rattle.hex.specs.Hex.{encode_lower};
-ghost use Rattle.labtop.specs.Handler.{spaced};
+ghost use Rattle.streamdefs.specs.Handler.{spaced};
 
 use crate::Memory;
 use itoa::Buffer;
@@ -38,29 +37,5 @@ pub(crate) fn put_numbers(out: &mut Vec<u8>, numbers: &[u64]) -> Result<(), Memo
     for n in numbers {
         put_count(out, " ", *n)?;
     }
-    Ok(())
-}
-
-/// Writes the hexadecimal digits of the bytes from `start` on, where they just fit.
-fn fill_hex(out: &mut [u8], start: usize, bytes: &[u8])
-    requires { length out.old ≡ start + 2 * length bytes.now }
-    ensures { out.new ≡ take start out.old ++ encode_lower bytes.now }
-{
-    match hex::encode_to_slice(bytes, &mut out[start..]) {
-        Ok(()) => {}
-        Err(_) => unreachable!(),
-    }
-}
-
-/// Appends bytes as hexadecimal digits.
-pub(crate) fn put_hex(out: &mut Vec<u8>, bytes: &[u8]) -> Result<(), Memory>
-    ensures { OnOk result (out.new.items ≡ out.old.items ++ encode_lower bytes.now) }
-{
-    let start = out.len();
-    let Some(end) = start.checked_add(2 * bytes.len()) else {
-        return Err(Memory);
-    };
-    out.resize(end, 0)?;
-    fill_hex(out, start, bytes);
     Ok(())
 }

@@ -1,16 +1,28 @@
 // The lines of a report.
-ghost use Rattle.std.specs.Prelude.{◌≡◌, ◌<◌, ◌^◌, ◌++◌, OnOk};
-ghost use Rattle.labtop.specs.Tally.{head_lines, dir_line, records_of, records_line, bytes_line, status_line};
+ghost use Rattle.std.specs.Prelude.{◌≡◌, ◌<◌, ◌^◌, ◌++◌, [], OnOk};
+ghost use Rattle.datagrams.specs.Sums.{sums_line};
+ghost use Rattle.labtop.specs.ReportLines.{lines_of, numbers_line, totals_line};
+ghost use Rattle.streamdefs.specs.Handler.{way_mark};
+ghost use Rattle.streamdefs.specs.Report.{head_lines, records_of, records_line, status_line};
 
 use crate::Memory;
 use crate::counts::RecordCounts;
-use crate::lines::mark_of;
 use crate::put::{put_count, put_numbers, put_text};
-use crate::sums::Sums;
-use crate::way::Way;
+use crate::totals::Totals;
+use datagrams::{Conversation, RunningSums};
+use evring::Way;
+
+fn mark_of(way: Way) -> &'static str
+    ensures { result.now ≡ way_mark way }
+{
+    match way {
+        Way::Fore => ">",
+        Way::Back => "<",
+    }
+}
 
 /// Appends the first two lines of a report.
-#[tactic(auto, unfolding(crate::specs::Tally::head_lines))]
+#[tactic(auto, unfolding(streamdefs::specs::Report::head_lines))]
 pub(crate) fn put_head_lines(out: &mut Vec<u8>, cores: u16, workers: u16) -> Result<(), Memory>
     ensures { OnOk result (out.new.items ≡ out.old.items ++ head_lines cores workers) }
 {
@@ -21,14 +33,9 @@ pub(crate) fn put_head_lines(out: &mut Vec<u8>, cores: u16, workers: u16) -> Res
 }
 
 /// Appends the line of what became of a direction's bytes.
-#[tactic(auto, unfolding(crate::specs::Tally::dir_line))]
-pub(crate) fn put_dir_line(
-    out: &mut Vec<u8>,
-    conv: u32,
-    way: Way,
-    sums: &Sums,
-) -> Result<(), Memory>
-    ensures { OnOk result (out.new.items ≡ out.old.items ++ dir_line conv way sums.now) }
+#[tactic(auto, unfolding(datagrams::specs::Sums::sums_line))]
+fn put_dir_line(out: &mut Vec<u8>, conv: u32, way: Way, sums: &RunningSums) -> Result<(), Memory>
+    ensures { OnOk result (out.new.items ≡ out.old.items ++ sums_line conv way sums.now) }
 {
     put_count(out, "dir ", u64::from(conv))?;
     put_text(out, " ")?;
@@ -36,9 +43,9 @@ pub(crate) fn put_dir_line(
     let numbers = [
         sums.payload,
         sums.delivered,
-        sums.duplicate,
-        sums.late,
-        sums.cut,
+        0,
+        0,
+        0,
         sums.shed,
         sums.gaps,
         sums.gap_bytes,
@@ -47,8 +54,16 @@ pub(crate) fn put_dir_line(
     put_text(out, "\n")
 }
 
+/// Appends the two lines of a conversation.
+pub(crate) fn put_dir_lines(out: &mut Vec<u8>, conversation: &Conversation) -> Result<(), Memory>
+    ensures { OnOk result (out.new.items ≡ out.old.items ++ lines_of conversation.now) }
+{
+    put_dir_line(out, conversation.number, Way::Fore, &conversation.fore_sums)?;
+    put_dir_line(out, conversation.number, Way::Back, &conversation.back_sums)
+}
+
 /// Appends the line of the records.
-#[tactic(auto, unfolding(crate::specs::Tally::records_line))]
+#[tactic(auto, unfolding(streamdefs::specs::Report::records_line))]
 pub(crate) fn put_records_line(out: &mut Vec<u8>, counts: &RecordCounts) -> Result<(), Memory>
     requires { records_of counts.now < 2 ^ 64 }
     ensures { OnOk result (out.new.items ≡ out.old.items ++ records_line counts.now) }
@@ -63,23 +78,39 @@ pub(crate) fn put_records_line(out: &mut Vec<u8>, counts: &RecordCounts) -> Resu
 }
 
 /// Appends the line of what became of all bytes.
-#[tactic(auto, unfolding(crate::specs::Tally::bytes_line))]
-pub(crate) fn put_bytes_line(out: &mut Vec<u8>, sums: &Sums) -> Result<(), Memory>
-    ensures { OnOk result (out.new.items ≡ out.old.items ++ bytes_line sums.now) }
+#[tactic(auto, unfolding(crate::specs::ReportLines::totals_line))]
+pub(crate) fn put_bytes_line(out: &mut Vec<u8>, totals: &Totals) -> Result<(), Memory>
+    ensures { OnOk result (out.new.items ≡ out.old.items ++ totals_line totals.now.payload totals.now.delivered totals.now.shed) }
 {
-    put_count(out, "bytes payload ", sums.payload)?;
-    put_count(out, " delivered ", sums.delivered)?;
-    put_count(out, " duplicate ", sums.duplicate)?;
-    put_count(out, " late ", sums.late)?;
-    put_count(out, " cut ", sums.cut)?;
-    put_count(out, " shed ", sums.shed)?;
+    put_count(out, "bytes payload ", totals.payload)?;
+    put_count(out, " delivered ", totals.delivered)?;
+    put_count(out, " duplicate ", 0)?;
+    put_count(out, " late ", 0)?;
+    put_count(out, " cut ", 0)?;
+    put_count(out, " shed ", totals.shed)?;
+    put_text(out, "\n")
+}
+
+/// Appends the line of the budget.
+#[tactic(auto, unfolding(crate::specs::ReportLines::numbers_line))]
+pub(crate) fn put_budget_line(
+    out: &mut Vec<u8>,
+    stamps: u32,
+    peak: u32,
+    refused: u64,
+) -> Result<(), Memory>
+    ensures { OnOk result (out.new.items ≡ out.old.items ++ numbers_line stamps peak refused) }
+{
+    put_count(out, "budget stamps ", u64::from(stamps))?;
+    put_count(out, " peak ", u64::from(peak))?;
+    put_count(out, " refused ", refused)?;
     put_text(out, "\n")
 }
 
 /// Appends the line of how the run ended.
-#[tactic(auto, unfolding(crate::specs::Tally::status_line))]
+#[tactic(auto, unfolding(streamdefs::specs::Report::status_line))]
 pub(crate) fn put_status_line(out: &mut Vec<u8>, status: u8) -> Result<(), Memory>
-    ensures { OnOk result (out.new.items ≡ out.old.items ++ status_line status) }
+    ensures { OnOk result (out.new.items ≡ out.old.items ++ status_line (record { status = status; more = [] })) }
 {
     put_count(out, "status ", u64::from(status))?;
     put_text(out, "\n")

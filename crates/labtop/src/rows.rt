@@ -1,19 +1,14 @@
 //! The definitions, evaluated on small captures: each is the contract of a function with an empty body.
-ghost use Rattle.std.specs.Prelude.{◌≡◌, [], ◌∷◌, codes, take};
-ghost use Rattle.labtop.specs.Rows.{file_head, one_datagram, its_packet, said_ipv6, four_packets};
+ghost use Rattle.std.specs.Prelude.{◌≡◌, [], ◌∷◌, take};
+ghost use Rattle.labtop.specs.Rows.{file_head, one_datagram, its_packet, said_ipv6};
 ghost use Rattle.labtop.specs.Drill.{verdict_of, Delivers, Refused, NotBuilt};
-ghost use Rattle.labtop.specs.Convo.{delivery_text};
-ghost use Rattle.labtop.specs.Report.{report_text};
+ghost use Rattle.labtop.specs.Settings.{default_marks, terms_of};
 
 use pcapfile::HeadFault;
 
-/// A capture of one datagram is delivered, and its two files are these.
+/// A capture of one datagram is delivered.
 pub fn one_datagram_is_delivered()
-    ensures verdict { verdict_of one_datagram ≡ Delivers (its_packet ∷ []) }
-    ensures delivery { delivery_text (its_packet ∷ [])
-        ≡ codes "new 1 udp 10.0.0.1 5000 10.0.0.2 53\ndata 1 > 0 0 0 0 6869\nend 1 finish\n" }
-    ensures report { report_text (its_packet ∷ [])
-        ≡ codes "scap report 1\ncores 1 workers 1\ndir 1 > 2 2 0 0 0 0 0 0\ndir 1 < 0 0 0 0 0 0 0 0\nrecords 1 accepted 1 filtered 0 other 0 fragment 0 short 0\nbytes payload 2 delivered 2 duplicate 0 late 0 cut 0 shed 0\nstatus 0\n" }
+    ensures { verdict_of one_datagram ≡ Delivers (its_packet ∷ []) }
 {}
 
 /// What is said to be IPv6 isn't built yet.
@@ -21,24 +16,21 @@ pub fn ipv6_is_not_built()
     ensures { verdict_of said_ipv6 ≡ NotBuilt }
 {}
 
-/// A capture without a record has an empty delivery file.
+/// A capture without a record is delivered.
 pub fn an_empty_capture_is_delivered()
-    ensures verdict { verdict_of file_head ≡ Delivers [] }
-    ensures delivery { delivery_text [] ≡ [] }
-    ensures report { report_text []
-        ≡ codes "scap report 1\ncores 1 workers 1\nrecords 0 accepted 0 filtered 0 other 0 fragment 0 short 0\nbytes payload 0 delivered 0 duplicate 0 late 0 cut 0 shed 0\nstatus 0\n" }
-{}
-
-/// Three datagrams of one conversation, both ways, and one of another: the starts are those of each direction, and the
-/// conversations end by their numbers.
-pub fn conversations_are_told_apart()
-    ensures delivery { delivery_text four_packets
-        ≡ codes "new 1 udp 10.0.0.1 5000 10.0.0.2 53\ndata 1 > 0 0 0 0 6869\ndata 1 > 2 0 0 0 6f\ndata 1 < 0 0 0 0 7979\nnew 4 udp 10.0.0.2 53 10.0.0.3 5000\nend 1 finish\nend 4 finish\n" }
-    ensures report { report_text four_packets
-        ≡ codes "scap report 1\ncores 1 workers 1\ndir 1 > 3 3 0 0 0 0 0 0\ndir 1 < 2 2 0 0 0 0 0 0\ndir 4 > 0 0 0 0 0 0 0 0\ndir 4 < 0 0 0 0 0 0 0 0\nrecords 4 accepted 4 filtered 0 other 0 fragment 0 short 0\nbytes payload 5 delivered 5 duplicate 0 late 0 cut 0 shed 0\nstatus 0\n" }
+    ensures { verdict_of file_head ≡ Delivers [] }
 {}
 
 /// A front of a file header is short.
 pub fn a_short_file_is_refused()
     ensures { verdict_of (take 10 file_head) ≡ Refused HeadFault.Short }
+{}
+
+/// A drill that is given no settings has a budget of 64 MiB, of which half may be filled before priorities count, chunks of 16 KiB, and an idle time of 300 s.
+pub fn settings_by_default()
+    ensures limit { (terms_of default_marks).marks.limit ≡ 67108864 }
+    ensures base { (terms_of default_marks).marks.base ≡ 33554432 }
+    ensures priorities { (terms_of default_marks).marks.priorities ≡ 1 }
+    ensures chunk { (terms_of default_marks).chunk ≡ 16384 }
+    ensures idle { (terms_of default_marks).idle ≡ 300000000000 }
 {}

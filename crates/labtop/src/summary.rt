@@ -1,33 +1,25 @@
-// The report of a capture's packets.
-ghost use Rattle.std.specs.Prelude.{◌≡◌, ◌<◌, ◌^◌, ◌++◌, OnOk, IfOk, map, flat_map};
-ghost use Rattle.labtop.specs.Report.{report_text, total_of};
-ghost use Rattle.labtop.specs.Standing.{kept_lines, standing};
-ghost use Rattle.labtop.specs.Views.{packet_view};
+// The report of a replay.
+ghost use Rattle.std.specs.Prelude.{◌≡◌, ◌<◌, ◌^◌, ◌++◌, All, IfOk, OnOk, flat_map};
+ghost use Rattle.datagrams.specs.Sound.{came_bytes, IsEven};
+ghost use Rattle.histbook.specs.Runs.{HasShortRuns};
+ghost use Rattle.labtop.specs.Headline.{done};
+ghost use Rattle.labtop.specs.ReportLines.{lines_of, lines_with};
+ghost use Rattle.streamdefs.specs.Lists.{Each, total};
 
 use crate::Memory;
-use crate::conversation::Conversation;
 use crate::counts::RecordCounts;
-use crate::packet::UdpPacket;
 use crate::report::{
-    put_bytes_line, put_dir_line, put_head_lines, put_records_line, put_status_line,
+    put_budget_line, put_bytes_line, put_dir_lines, put_head_lines, put_records_line,
+    put_status_line,
 };
-use crate::sums::Sums;
-use crate::way::Way;
+use crate::totals::sum_up;
+use datagrams::{Conversation, WholeReplay};
+use histbook::put_journal;
 use std::alloc::Global;
-
-/// Appends the two lines of a conversation.
-fn put_dir_lines(out: &mut Vec<u8>, conversation: &Conversation) -> Result<(), Memory>
-    ensures { OnOk result (out.new.items ≡ out.old.items ++ kept_lines conversation.now) }
-{
-    let fore = Sums::delivered(conversation.fore);
-    let back = Sums::delivered(conversation.back);
-    put_dir_line(out, conversation.number, Way::Fore, &fore)?;
-    put_dir_line(out, conversation.number, Way::Back, &back)
-}
 
 /// Appends the lines of all conversations.
 fn put_conversations(out: &mut Vec<u8>, conversations: &[Conversation]) -> Result<(), Memory>
-    ensures { OnOk result (out.new.items ≡ out.old.items ++ flat_map kept_lines conversations.now) }
+    ensures { OnOk result (out.new.items ≡ out.old.items ++ flat_map lines_of conversations.now) }
 {
     for conversation in conversations {
         put_dir_lines(out, conversation)?;
@@ -35,30 +27,16 @@ fn put_conversations(out: &mut Vec<u8>, conversations: &[Conversation]) -> Resul
     Ok(())
 }
 
-/// The bytes of all payloads.
-fn total(packets: &[UdpPacket<'_>]) -> u64
-    requires { total_of (map packet_view packets.now) < 2 ^ 64 }
-    ensures { result ≡ total_of (map packet_view packets.now) }
+/// The report of a replay of so many accepted records.
+pub(crate) fn report(alloc: Global, accepted: u64, whole: &WholeReplay) -> Result<Vec<u8>, Memory>
+    requires even { Each IsEven whole.now.table }
+    requires came { total came_bytes whole.now.table < 2 ^ 64 }
+    requires short { All HasShortRuns whole.now.journal.workers }
+    ensures { IfOk result (λ text. text.items ≡ lines_with whole.now.journal whole.now.table (record { accepted = accepted; filtered = 0; other = 0; fragment = 0; short = 0 }) whole.now.stamps whole.now.peak whole.now.refused done) }
 {
-    let mut total = 0;
-    for packet in packets {
-        total += packet.payload.len() as u64;
-    }
-    total
-}
-
-/// The report of packets, by what is kept of their conversations.
-pub(crate) fn report(
-    alloc: Global,
-    packets: &[UdpPacket<'_>],
-    conversations: &[Conversation],
-) -> Result<Vec<u8>, Memory>
-    requires fits { total_of (map packet_view packets.now) < 2 ^ 64 }
-    requires kept { conversations.now ≡ standing (map packet_view packets.now) }
-    ensures { IfOk result (λ text. text.items ≡ report_text (map packet_view packets.now)) }
-{
+    let table = whole.table.as_slice();
     let counts = RecordCounts {
-        accepted: packets.len() as u64,
+        accepted,
         filtered: 0,
         other: 0,
         fragment: 0,
@@ -66,9 +44,11 @@ pub(crate) fn report(
     };
     let mut out = Vec::new(alloc);
     put_head_lines(&mut out, 1, 1)?;
-    put_conversations(&mut out, conversations)?;
+    put_journal(&whole.journal, &mut out)?;
+    put_conversations(&mut out, table)?;
     put_records_line(&mut out, &counts)?;
-    put_bytes_line(&mut out, &Sums::delivered(total(packets)))?;
+    put_bytes_line(&mut out, &sum_up(table))?;
+    put_budget_line(&mut out, whole.stamps, whole.peak, whole.refused)?;
     put_status_line(&mut out, 0)?;
     Ok(out)
 }

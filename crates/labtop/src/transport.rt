@@ -1,7 +1,7 @@
 // The headers of the transport: UDP (RFC 768).
-ghost use Rattle.std.specs.Prelude.{◌≡◌, ◌+◌, ◌≤◌, length};
+ghost use Rattle.std.specs.Prelude.{◌≡◌, ◌+◌, ◌<◌, ◌≤◌, ◌^◌, length};
 ghost use Rattle.labtop.specs.Porthdr.{datagram_length, end_at, udp as udp_of, transport as transport_of, kind_of};
-ghost use Rattle.labtop.specs.Views.{net_view, seen_view};
+ghost use Rattle.labtop.specs.Views.{declared_in, net_view, seen_view};
 
 use crate::network::{Net, PROTO_UDP, front, network, short};
 use streamkey::{Addr, End, Key, Proto, Toward};
@@ -23,6 +23,7 @@ pub(crate) enum Seen<'a> {
     Accepted {
         key: Key,
         toward: Toward,
+        declared: u32,
         payload: &'a [u8],
     },
     Skipped(Skip),
@@ -32,7 +33,8 @@ pub(crate) enum Seen<'a> {
 /// The length of a datagram by its header, or that which is declared for it.
 fn datagram_size(declared: usize, body: &[u8]) -> usize
     requires { 8 ≤ length body.now }
-    ensures { result ≡ datagram_length declared body.now }
+    ensures exact { result ≡ datagram_length declared body.now }
+    ensures bound { result ≤ declared }
 {
     let said = short(body, 4) as usize;
     if said == 0 || declared < said {
@@ -54,6 +56,7 @@ fn end_in(addr: Addr, body: &[u8], at: usize) -> End
 
 #[tactic(auto, unfolding(crate::specs::Porthdr::udp))]
 fn udp(source: Addr, target: Addr, declared: usize, body: &[u8]) -> Seen<'_>
+    requires { declared < 2 ^ 32 }
     ensures { seen_view result ≡ udp_of source target declared body.now }
 {
     if body.len() < UDP_HEADER {
@@ -68,11 +71,13 @@ fn udp(source: Addr, target: Addr, declared: usize, body: &[u8]) -> Seen<'_>
     Seen::Accepted {
         key,
         toward,
+        declared: most as u32,
         payload: front(&body[UDP_HEADER..], most),
     }
 }
 
 fn transport(net: Net<'_>) -> Seen<'_>
+    requires { declared_in (net_view net) < 2 ^ 32 }
     ensures { seen_view result ≡ transport_of (net_view net.entry) }
 {
     match net {
@@ -93,6 +98,7 @@ fn transport(net: Net<'_>) -> Seen<'_>
 /// What a record of an Ethernet capture is.
 #[tactic(auto, unfolding(crate::specs::Porthdr::kind_of))]
 pub(crate) fn seen_in(frame: &[u8]) -> Seen<'_>
+    requires { length frame.now < 2 ^ 31 }
     ensures { seen_view result ≡ kind_of frame.now }
 {
     transport(network(frame))

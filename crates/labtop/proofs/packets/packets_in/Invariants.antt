@@ -1,12 +1,12 @@
 use Rattle.std.proofs.Common.{◌≡◌, ◌+◌, drop}
 use Rattle.std.specs.Prelude.{map}
 use Rattle.labtop.specs.Scapconf.{packets_from}
-use Rattle.labtop.specs.Views.{packet_view}
+use Rattle.datagrams.specs.Capture.{packet_for}
 use Rattle.labtop.proofs.PacketsLemmas.{behind}
 use Rattle.labtop.proofs.packets.packets_in.Given as goal
 
 abbrev pub invariant-loop-frame : goal.invariant-loop-frame
 invariant-loop-frame l = record {
-  packets : behind (map packet_view l.found.items) (packets_from (l.number + 1) l.clock (drop l.frame-index l.frames)) ≡ packets_from 1 0 l.frames;
+  packets : behind (map packet_for l.found.items) (packets_from (l.number + 1) l.clock (drop l.frame-index l.frames)) ≡ packets_from 1 0 l.frames;
   number : l.number ≡ l.frame-index;
 }

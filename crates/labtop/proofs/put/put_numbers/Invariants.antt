@@ -1,5 +1,5 @@
 use Rattle.std.proofs.Common.{◌≡◌, ◌++◌, take}
-use Rattle.labtop.specs.Handler.{spaced}
+use Rattle.streamdefs.specs.Handler.{spaced}
 use Rattle.labtop.proofs.put.put_numbers.Given as goal
 
 abbrev pub invariant-loop-n : goal.invariant-loop-n

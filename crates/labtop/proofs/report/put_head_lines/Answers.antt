@@ -2,7 +2,7 @@ use Rattle.std.proofs.Common.{◌≡◌, ℕ, List, ◌++◌, ◌∙◌, append_
 use Rattle.std.specs.Fmt.{decimal}
 use Rattle.std.specs.Prelude.{codes}
 use Rattle.std.proofs.lemmas.Result.{on_ok_weaker}
-use Rattle.labtop.specs.Tally.{head_lines}
+use Rattle.streamdefs.specs.Report.{head_lines}
 use Rattle.labtop.proofs.report.put_head_lines.Goals as goal
 
 after_head : (o a b c d : List ℕ) (cores workers m n : ℕ) → m ≡ cores → n ≡ workers → a ≡ o ++ codes "scap report 1\n" → b ≡ a ++ codes "cores " ++ decimal m

@@ -1,6 +1,0 @@
-/// A direction of a conversation: `Fore` is that of its first packet.
-#[derive(Clone, Copy, Debug, PartialEq, Eq)]
-pub(crate) enum Way {
-    Fore,
-    Back,
-}
