@@ -1,0 +1,16 @@
+use Rattle.std.proofs.Common.{◌≡◌, ◌++◌, length, string_bytes}
+use Rattle.capfilter.specs.Canonical.{canonical}
+use Rattle.capfilter.specs.Nodes.{trees, root}
+use Rattle.capfilter.specs.Tasks.{to_print, total_size, AreTasksOf}
+use Rattle.capfilter.proofs.shown.shown_of.Given as goal
+
+-- what is printed, and what is left, are the whole text
+abbrev pub invariant-loop-task : goal.invariant-loop-task
+invariant-loop-task l =
+    record {
+      text : string_bytes l.out ++ to_print (trees l.nodes) l.tasks.items ≡ canonical (root l.nodes);
+      within : AreTasksOf (length l.nodes) l.tasks.items;
+    }
+
+abbrev pub decreases-loop-task : goal.decreases-loop-task
+decreases-loop-task l = total_size (trees l.nodes) l.tasks.items
