@@ -1,5 +1,5 @@
 //! The headers of a link and of the internet protocol: what a captured frame carries, or which kind of skip it is.
-//! `network` answers what the definition in specs/ gives for every link and every frame; it lends the frame's bytes, copies none and takes no memory.
+//! `network` answers what the definition in specs/ gives for every link and every frame; it lends the body from the frame, copies nothing of it and takes no memory.
 //! Stands on pcapfile (the links), streamkey (addresses) and byteorder.
 #![tactic(auto)]
 
