@@ -17,3 +17,4 @@ pub mod FitLemmas
 pub mod CanonicalTokens
 pub mod CanonicalLemmas
 pub mod LawLemmas
+pub mod BitLemmas

@@ -1,7 +1,9 @@
-use Rattle.std.specs.Prelude.{◌≡◌, ℕ, ◌+◌, ◌≤◌, ◌⊎◌, List, length, max}
+use Rattle.std.specs.Prelude.{◌≡◌, ℕ, ◌+◌, ◌/◌, ◌%◌, ◌≤◌, ◌⊎◌, ◌↔◌, true, List, [], ◌∷◌, length, take, max, flat_map}
 use Rattle.capfilter.specs.declared.filter_error.FilterFault.{FilterFault}
 use Rattle.capfilter.specs.Expr.{Expr, Test, Not, And, Or}
 use Rattle.capfilter.specs.Tokens.{tokens}
+use Rattle.capfilter.specs.Truth.{agree}
+use Rattle.capfilter.specs.Fit.{AreBytes}
 use Rattle.capfilter.specs.Canonical.{canonical}
 use Rattle.capfilter.specs.Faults.{Reads, IsFault}
 
@@ -29,3 +31,14 @@ HasOneFault text = (f g : FilterFault) → IsFault text f → IsFault text g →
 pub record IsReadOrRefused (text : List ℕ) : Type 0 where
   pub one : ((e : Expr) × Reads text e) ⊎ ((f : FilterFault) × IsFault text f)
   pub apart : (e : Expr) (f : FilterFault) → Reads text e → ¬ IsFault text f
+
+-- the eight bits of a byte, the high one first
+abbrev pub byte_bits : ℕ → List ℕ
+byte_bits b = b / 128 % 2 ∷ b / 64 % 2 ∷ b / 32 % 2 ∷ b / 16 % 2 ∷ b / 8 % 2 ∷ b / 4 % 2 ∷ b / 2 % 2 ∷ b % 2 ∷ []
+
+abbrev pub bits_of : List ℕ → List ℕ
+bits_of = flat_map byte_bits
+
+-- bytes of one length agree where their first n bits are the same
+abbrev pub AgreesByBits : ℕ → List ℕ → List ℕ → Type 0
+AgreesByBits n a b = AreBytes a → AreBytes b → length a ≡ length b → (agree n a b ≡ true) ↔ (take n (bits_of a) ≡ take n (bits_of b))

@@ -2,7 +2,7 @@
 ghost use Rattle.std.specs.Prelude.{ℕ, List};
 ghost use Rattle.capfilter.specs.Canonical.{canonical};
 ghost use Rattle.capfilter.specs.Faults.{Reads};
-ghost use Rattle.capfilter.specs.Laws.{HasOneTree, HasOneFault, IsReadOrRefused, IsWithinLimits};
+ghost use Rattle.capfilter.specs.Laws.{HasOneTree, HasOneFault, IsReadOrRefused, IsWithinLimits, AgreesByBits};
 
 use crate::Filter;
 
@@ -26,4 +26,9 @@ pub fn texts_have_one_fault()
 /// Each text has a tree or a fault, and none has both.
 pub fn texts_are_read_or_refused()
     ensures { (text : List ℕ) → IsReadOrRefused text }
+{}
+
+/// A net looks at the first bits of an address, and at no others.
+pub fn nets_look_at_first_bits()
+    ensures { (n : ℕ) (a b : List ℕ) → AgreesByBits n a b }
 {}

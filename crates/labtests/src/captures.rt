@@ -16,11 +16,21 @@ pub(crate) const ONE: [u8; 84] = [
     0x00, 0x00, 0x68, 0x69,
 ];
 
+// The same record as a big-endian capture with nanoseconds has it, at 1 s and 5 ns.
+pub(crate) const BIG: [u8; 40] = [
+    0xa1, 0xb2, 0x3c, 0x4d, 0x00, 0x02, 0x00, 0x04, 0x00, 0x00, 0x00, 0x00, 0x00, 0x00, 0x00, 0x00,
+    0x00, 0x04, 0x00, 0x00, 0x00, 0x00, 0x00, 0x01, 0x00, 0x00, 0x00, 0x01, 0x00, 0x00, 0x00, 0x05,
+    0x00, 0x00, 0x00, 0x2c, 0x00, 0x00, 0x00, 0x2c,
+];
+
 pub(crate) const DELIVERY: &str =
     "new 1 udp 10.0.0.1 5000 10.0.0.2 53\ndata 1 > 0 0 0 0 6869\nend 1 finish\n";
 
 pub(crate) const REPORT: &str =
     "scap report 1\ncores 1 workers 1\ncore 0\nseg 1 1 1000005000 +2@0:0\nans 1 1 .\nend 1 1000005000 finish\nans 1 2 . ~2@1\nans 1 3 .\nworker 0\nfrom 0 3\ndir 1 > 2 2 0 0 0 0 0 0\ndir 1 < 0 0 0 0 0 0 0 0\nrecords 1 accepted 1 filtered 0 other 0 fragment 0 short 0\nbytes payload 2 delivered 2 duplicate 0 late 0 cut 0 shed 0\nbudget stamps 2 peak 2 refused 0\nstatus 0\n";
+
+pub(crate) const REPORT_OF_NANOSECONDS: &str =
+    "scap report 1\ncores 1 workers 1\ncore 0\nseg 1 1 1000000005 +2@0:0\nans 1 1 .\nend 1 1000000005 finish\nans 1 2 . ~2@1\nans 1 3 .\nworker 0\nfrom 0 3\ndir 1 > 2 2 0 0 0 0 0 0\ndir 1 < 0 0 0 0 0 0 0 0\nrecords 1 accepted 1 filtered 0 other 0 fragment 0 short 0\nbytes payload 2 delivered 2 duplicate 0 late 0 cut 0 shed 0\nbudget stamps 2 peak 2 refused 0\nstatus 0\n";
 
 pub(crate) const WORDS: [&str; 4] = ["scaplab", "drill", "cap", "out"];
 

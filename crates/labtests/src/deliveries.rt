@@ -1,11 +1,12 @@
 ghost use Rattle.std.specs.Prelude.{◌<◌};
 
 use crate::captures::{
-    DELIVERY, ONE, REPORT, WORDS, changed, expect_files, opened, put_record, shelf_with,
+    BIG, DELIVERY, ONE, REPORT, REPORT_OF_NANOSECONDS, WORDS, changed, expect_files, opened,
+    put_record, shelf_with,
 };
 use labtop::{Status, lab_top};
 use scap_world::{MemShelf, Memory};
-use std::alloc::Global;
+use std::alloc::{AllocError, Global};
 use std::process::Abort;
 use std::test::Fail;
 
@@ -14,6 +15,14 @@ fn has_file(shelf: &MemShelf, name: &str, bytes: &[u8]) -> bool {
         Some(found) => found == bytes,
         None => false,
     }
+}
+
+/// A big-endian capture with another end of its magic.
+fn swapped(alloc: Global, capture: &[u8], end: [u8; 2]) -> Result<Vec<u8>, AllocError> {
+    let mut bytes = Vec::from_slice(alloc, &[0xa1, 0xb2])?;
+    bytes.extend_from_slice(&end)?;
+    bytes.extend_from_slice(capture.get(4..).unwrap_or_default())?;
+    Ok(bytes)
 }
 
 /// The run over files that are read and written so many bytes at a time.
@@ -38,6 +47,27 @@ fn one_datagram_is_delivered_however_it_is_read(rt: HostRuntime) -> Result<(), F
     expect_delivery(&rt, alloc, 1)?;
     expect_delivery(&rt, alloc, 7)?;
     expect_delivery(&rt, alloc, 65_536)?;
+    Ok(())
+}
+
+#[test]
+fn captures_are_read_in_their_order_of_bytes_and_unit(rt: HostRuntime) -> Result<(), Fail> {
+    let alloc = rt.alloc();
+    let mut big_nanoseconds = Vec::from_slice(alloc, &BIG)?;
+    big_nanoseconds.extend_from_slice(&ONE[40..])?;
+    let big = swapped(alloc, &big_nanoseconds, [0xc3, 0xd4])?;
+    let nanoseconds = changed(alloc, &[(0, 0x4d), (1, 0x3c)])?;
+    let cases: [(&[u8], &str); 3] = [
+        (&big_nanoseconds, REPORT_OF_NANOSECONDS),
+        (&big, REPORT),
+        (&nanoseconds, REPORT_OF_NANOSECONDS),
+    ];
+    for (capture, report) in cases {
+        let mut shelf = shelf_with(alloc, capture)?;
+        let done = lab_top(alloc, &WORDS, &mut shelf);
+        assert_eq!(rt; done.status, Status::Done);
+        expect_files(&rt, &shelf, Some(DELIVERY), Some(report));
+    }
     Ok(())
 }
 

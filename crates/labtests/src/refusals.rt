@@ -76,18 +76,14 @@ fn what_is_not_built_creates_no_file(rt: HostRuntime) -> Result<(), Fail> {
 }
 
 #[test]
-fn other_heads_are_not_built(rt: HostRuntime) -> Result<(), Fail> {
+fn other_links_are_not_built(rt: HostRuntime) -> Result<(), Fail> {
     let alloc = rt.alloc();
-    let big = [
-        0xa1, 0xb2, 0xc3, 0xd4, 0, 2, 0, 4, 0, 0, 0, 0, 0, 0, 0, 0, 0, 4, 0, 0, 0, 0, 0, 1,
-    ];
-    let nanoseconds = changed(alloc, &[(0, 0x4d), (1, 0x3c)])?;
-    let raw = changed(alloc, &[(20, 101)])?;
-    let cases: [&[u8]; 3] = [&big, &nanoseconds, &raw];
-    for (i, capture) in cases.iter().enumerate() {
-        let mut shelf = shelf_with(alloc, capture)?;
+    // Raw IP, and both headers of Linux cooked captures.
+    let cases: [&[(usize, u8)]; 3] = [&[(20, 101)], &[(20, 113)], &[(20, 20), (21, 1)]];
+    for changes in cases {
+        let mut shelf = shelf_with(alloc, &changed(alloc, changes)?)?;
         let done = lab_top(alloc, &WORDS, &mut shelf);
-        assert_eq!(rt; done.status, Status::Unbuilt, "case {i}");
+        assert_eq!(rt; done.status, Status::Unbuilt, "at {changes:?}");
         expect_files(&rt, &shelf, None, None);
     }
     Ok(())

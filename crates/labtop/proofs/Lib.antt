@@ -8,3 +8,4 @@ pub mod VerdictLemmas
 pub mod WordsLemmas
 pub mod OutcomeLemmas
 pub mod TotalsLemmas
+pub mod LawLemmas

@@ -1,4 +1,4 @@
-use Rattle.std.specs.Prelude.{ℕ, ◌+◌, List, [], ◌∷◌, length, Bool, true, false, not, ◌&&◌, ◌||◌, nat_lt, nat_le, if◌then◌else◌, Option, Some, None, Result, Ok, Err}
+use Rattle.std.specs.Prelude.{ℕ, ◌+◌, List, [], ◌∷◌, length, Bool, true, false, not, ◌||◌, nat_lt, nat_le, if◌then◌else◌, Option, Some, None, Result, Ok, Err}
 use Rattle.pcapfile.specs.declared.head.FileHead.{FileHead}
 use Rattle.pcapfile.specs.declared.head_fault.HeadFault.{HeadFault}
 use Rattle.pcapfile.specs.declared.link.Link.{Link}
@@ -26,9 +26,9 @@ is_ethernet Raw = false
 is_ethernet Cooked = false
 is_ethernet Cooked2 = false
 
--- the heads that are built: little-endian, microseconds, Ethernet
+-- the heads that are built: those of Ethernet
 abbrev pub is_built : FileHead → Bool
-is_built head = not head.big && not head.nanos && is_ethernet head.link
+is_built head = is_ethernet head.link
 
 -- the records of a capture whose end is whole
 abbrev pub whole_in : List Frame → End → Option (List Frame)

@@ -53,5 +53,5 @@ pub(crate) fn whole_frames(
 pub(crate) fn is_known(head: FileHead) -> bool
     ensures { result ≡ is_built head }
 {
-    !head.big && !head.nanos && head.link == Link::Ethernet
+    head.link == Link::Ethernet
 }

@@ -9,6 +9,7 @@ mod counts;
 mod drill;
 mod files;
 mod lab_done;
+pub mod laws;
 mod memory;
 mod names;
 mod network;
