@@ -1,5 +1,6 @@
 #!/usr/bin/env python3
-"""Measures `scaplab drill` on captures that make_udp.py makes, and checks both output files against model.py.
+"""Measures drills on captures that make_udp.py makes, and checks both output files against model.py: `scaplab drill`, whose
+budget holds any capture, and `drillbench` with a budget that sheds.
 
 Time is the best of the runs, from the start of the program to its end. Peak memory is the largest resident size of
 one more run, by /usr/bin/time. The copy reads and writes the capture and both outputs once, in pieces of 64 KiB.
@@ -22,7 +23,10 @@ import make_udp
 import model
 
 HERE = pathlib.Path(__file__).resolve().parent
-PROGRAM = HERE.parent / "crates" / "scaplab" / "out" / "scaplab"
+CRATES = HERE.parent / "crates"
+PROGRAM = CRATES / "scaplab" / "out" / "scaplab"
+WITH_BUDGET = CRATES / "drillbench" / "out" / "drillbench"
+BUDGET = 65_536
 TIME = "/usr/bin/time"
 DATAGRAMS = (1_000, 10_000, 100_000)
 KEYS = (1, 64, 10_000)
@@ -70,8 +74,15 @@ def run_checked(words):
         sys.exit(f"{words}: status {run.returncode}, printed {run.stdout!r}")
 
 
-def drill_words(program, files):
-    return [str(program), "drill", str(files.capture), str(files.out)]
+@dataclass
+class Drill:
+    """A program with its first words, and the budget that it has."""
+
+    words: list
+    limit: int
+
+    def on(self, files):
+        return [*self.words, str(files.capture), str(files.out)]
 
 
 def seconds_of(action):
@@ -89,10 +100,10 @@ def start_seconds(program):
     return best_seconds(lambda: subprocess.run([str(program)], stdout=subprocess.DEVNULL, check=False))
 
 
-def peak_kib(program, files):
+def peak_kib(drill, files):
     """The peak memory of a run. A child's own count would begin with the memory of this script, so `time` starts it."""
     note = files.folder / "peak"
-    run_checked([TIME, "-o", str(note), "-f", "%M", *drill_words(program, files)])
+    run_checked([TIME, "-o", str(note), "-f", "%M", *drill.on(files)])
     return int(note.read_text())
 
 
@@ -107,8 +118,8 @@ def copy_all(files):
         copy_file(path, files.folder / "copy")
 
 
-def is_as_modelled(files):
-    texts = model.files_of(files.capture.read_bytes())
+def is_as_modelled(drill, files):
+    texts = model.files_of(files.capture.read_bytes(), drill.limit)
     return all(path.read_bytes() == text for path, text in zip(files.outputs, texts))
 
 
@@ -116,16 +127,16 @@ def size_of(paths):
     return sum(os.path.getsize(path) for path in paths)
 
 
-def measure(program, files, datagrams, keys):
+def measure(drill, files, datagrams, keys):
     """A row of the table."""
     make_udp.write_capture(files.capture, datagrams, keys, PAYLOAD, SEED)
-    seconds = best_seconds(lambda: run_checked(drill_words(program, files)))
-    peak = peak_kib(program, files)
+    seconds = best_seconds(lambda: run_checked(drill.on(files)))
+    peak = peak_kib(drill, files)
     copy = best_seconds(lambda: copy_all(files))
     return (
         f"{datagrams}", f"{keys}", f"{size_of([files.capture])}", f"{size_of(files.outputs)}",
         f"{seconds:.4f}", f"{seconds * 1e6 / datagrams:.2f}", f"{peak}", f"{peak * 1024 / datagrams:.0f}",
-        f"{seconds / copy:.1f}", "yes" if is_as_modelled(files) else "NO",
+        f"{seconds / copy:.1f}", "yes" if is_as_modelled(drill, files) else "NO",
     )
 
 
@@ -133,54 +144,58 @@ def print_row(cells):
     print("| " + " | ".join(cells) + " |", flush=True)
 
 
-def print_table(program, files):
+def print_table(drill, files):
     """Answers whether all files are the model's."""
+    print(f"budget of {drill.limit} bytes\n", flush=True)
     print_row(COLUMNS)
     print_row(["--:"] * len(COLUMNS))
     equal = True
     for datagrams in DATAGRAMS:
         for keys in KEYS:
-            row = measure(program, files, datagrams, min(keys, datagrams))
+            row = measure(drill, files, datagrams, min(keys, datagrams))
             print_row(row)
             equal = equal and row[-1] == "yes"
+    print()
     return equal
 
 
-def check(program, files, datagrams, keys, longest):
+def check(drill, files, datagrams, keys, longest):
     """Answers whether the files of a capture with payloads of mixed lengths are the model's."""
     make_udp.write_capture(files.capture, datagrams, keys, longest, SEED, mixed=True)
-    run_checked(drill_words(program, files))
-    equal = is_as_modelled(files)
+    run_checked(drill.on(files))
+    equal = is_as_modelled(drill, files)
     if not equal:
-        print(f"differs: make_udp.py {datagrams} {keys} {longest} {SEED} OUTPUT --mixed")
+        print(f"differs: budget of {drill.limit} bytes, make_udp.py {datagrams} {keys} {longest} {SEED} OUTPUT --mixed")
     return equal
 
 
-def print_checks(program, files):
+def print_checks(drill, files):
     """Answers whether all files are the model's."""
-    equal = [check(program, files, *shape) for shape in CHECKED]
-    print(f"payloads of mixed lengths: {sum(equal)} of {len(equal)} captures equal")
+    equal = [check(drill, files, *shape) for shape in CHECKED]
+    print(f"budget of {drill.limit} bytes, payloads of mixed lengths: {sum(equal)} of {len(equal)} captures equal")
     return all(equal)
 
 
 def parse_words():
     parser = argparse.ArgumentParser(description=__doc__, formatter_class=argparse.RawDescriptionHelpFormatter)
     parser.add_argument("program", nargs="?", type=pathlib.Path, default=PROGRAM, help="the built scaplab")
+    parser.add_argument("with_budget", nargs="?", type=pathlib.Path, default=WITH_BUDGET, help="the built drillbench")
     words = parser.parse_args()
-    for needed in (words.program, pathlib.Path(TIME)):
+    for needed in (words.program, words.with_budget, pathlib.Path(TIME)):
         if not os.access(needed, os.X_OK):
             parser.error(f"{needed} can't be run")
     return words
 
 
 def main():
-    program = parse_words().program.resolve()
+    words = parse_words()
+    program, with_budget = str(words.program.resolve()), str(words.with_budget.resolve())
+    drills = (Drill([program, "drill"], model.LIMIT), Drill([with_budget, str(BUDGET)], BUDGET))
     with tempfile.TemporaryDirectory() as folder:
         files = Files(pathlib.Path(folder))
         print(f"start alone: {start_seconds(program):.4f} seconds\n", flush=True)
-        equal = print_table(program, files)
-        print()
-        equal = print_checks(program, files) and equal
+        equal = all([print_table(drill, files) for drill in drills])
+        equal = all([print_checks(drill, files) for drill in drills]) and equal
     print("every file is the model's" if equal else "a file differs from the model's")
     sys.exit(0 if equal else 1)
 

@@ -9,6 +9,8 @@ import struct
 
 CHUNK = 16_384
 MOST_WAITING = 255
+# How many bytes of a drill's budget its only priority may fill.
+LIMIT = 67_108_864
 
 
 def require(holds, what):
@@ -44,21 +46,46 @@ def datagram(frame):
 
 
 class Half:
-    """A direction: the chunk that is open, and where it begins."""
+    """A direction: how many bytes came, the front, the open chunk, and the numbers of the report."""
 
     def __init__(self):
-        self.start = 0
-        self.chunk = []
+        self.sent, self.front = 0, 0
+        self.start, self.gap, self.parts = 0, 0, []
+        self.delivered, self.shed, self.gaps, self.gap_bytes = 0, 0, 0, 0
 
     @property
     def open_bytes(self):
-        return sum(len(part) for part in self.chunk)
+        return sum(len(part) for part in self.parts)
+
+    def take(self, payload, granted):
+        """The chunks that are handed over as these bytes come."""
+        at = self.sent
+        self.sent += len(payload)
+        if not granted:
+            self.shed += len(payload)
+            return []
+        closed = []
+        if self.parts and self.front < at:
+            closed.append(self.closed())
+        if not self.parts:
+            self.start, self.gap = at, at - self.front
+        self.parts.append(payload)
+        self.front = self.sent
+        if self.open_bytes >= CHUNK:
+            closed.append(self.closed())
+        return closed
 
     def closed(self):
-        """The start and the parts of the chunk, which a new one follows."""
-        start, parts = self.start, self.chunk
-        self.start, self.chunk = start + self.open_bytes, []
-        return start, parts
+        """The start, the gap and the parts of the open chunk, which is open no longer."""
+        chunk = self.start, self.gap, self.parts
+        self.delivered += self.open_bytes
+        self.gaps += self.gap > 0
+        self.gap_bytes += self.gap
+        self.parts = []
+        return chunk
+
+    def numbers(self):
+        return f"{self.sent} {self.delivered} 0 0 0 {self.shed} {self.gaps} {self.gap_bytes}"
 
 
 class Conversation:
@@ -72,13 +99,14 @@ class Conversation:
 
 
 class Replay:
-    """One core and one worker, under a budget that never refuses: a capture is shorter than what any priority may fill."""
+    """One core and one worker, under a budget that any priority may fill."""
 
-    def __init__(self):
+    def __init__(self, limit):
+        self.limit = limit
         self.conversations = {}
         self.lines, self.entries = [], []
         self.waiting, self.answered = [], 0
-        self.stamp, self.used, self.peak = 0, 0, 0
+        self.stamp, self.used, self.peak, self.refused = 0, 0, 0, 0
         self.records, self.clock = 0, 0
 
     def tell(self, number, line, charges=()):
@@ -98,15 +126,20 @@ class Replay:
         self.stamp, self.used = self.stamp + 1, self.used - size
         return word
 
-    def granted(self, size):
-        word = f" +{size}@{self.stamp}:{self.used}"
-        self.stamp, self.used = self.stamp + 1, self.used + size
-        self.peak = max(self.peak, self.used)
-        return word
+    def look(self, size):
+        """The word of a look for so many bytes, and whether they were granted."""
+        granted = self.used + size <= self.limit
+        word = f" {'+' if granted else '-'}{size}@{self.stamp}:{self.used}"
+        if granted:
+            self.stamp, self.used = self.stamp + 1, self.used + size
+            self.peak = max(self.peak, self.used)
+        else:
+            self.refused += 1
+        return word, granted
 
-    def hand_over(self, number, way, half):
-        start, parts = half.closed()
-        line = f"data {number} {way} {start} 0 0 0 {b''.join(parts).hex()}\n"
+    def hand_over(self, number, way, chunk):
+        start, gap, parts = chunk
+        line = f"data {number} {way} {start} {gap} 0 0 {b''.join(parts).hex()}\n"
         self.tell(number, line, [len(part) for part in parts])
 
     def conversation_of(self, source, target):
@@ -121,13 +154,14 @@ class Replay:
         self.records, self.clock = self.records + 1, max(self.clock, moment)
         conversation = self.conversation_of(source, target)
         way = conversation.way_from(source)
-        look = self.granted(len(payload)) if payload else ""
-        self.entries.append(f"seg {conversation.number} {self.records} {self.clock}{look}\n")
         half = conversation.halves[way]
+        word, chunks = "", []
         if payload:
-            half.chunk.append(payload)
-        if half.open_bytes >= CHUNK:
-            self.hand_over(conversation.number, way, half)
+            word, granted = self.look(len(payload))
+            chunks = half.take(payload, granted)
+        self.entries.append(f"seg {conversation.number} {self.records} {self.clock}{word}\n")
+        for chunk in chunks:
+            self.hand_over(conversation.number, way, chunk)
 
     def end(self):
         """Ends all conversations in the order of their numbers, with fewer than 256 events waiting before each."""
@@ -136,14 +170,14 @@ class Replay:
             self.answer(MOST_WAITING)
             self.entries.append(f"end {conversation.number} {self.clock} finish\n")
             for way, half in conversation.halves.items():
-                if half.chunk:
-                    self.hand_over(conversation.number, way, half)
+                if half.parts:
+                    self.hand_over(conversation.number, way, half.closed())
             self.tell(conversation.number, f"end {conversation.number} finish\n")
         self.answer(0)
 
 
-def replay_of(capture):
-    replay = Replay()
+def replay_of(capture, limit):
+    replay = Replay(limit)
     for moment, frame in frames(capture):
         replay.take(moment, *datagram(frame))
     replay.end()
@@ -156,22 +190,21 @@ def report_lines(replay):
     yield "worker 0\n"
     if replay.answered:
         yield f"from 0 {replay.answered}\n"
-    total = 0
+    halves = []
     for conversation in replay.conversations.values():
         for way, half in conversation.halves.items():
-            size = half.start
-            yield f"dir {conversation.number} {way} {size} {size} 0 0 0 0 0 0\n"
-            total += size
-    records = replay.records
-    yield f"records {records} accepted {records} filtered 0 other 0 fragment 0 short 0\n"
-    yield f"bytes payload {total} delivered {total} duplicate 0 late 0 cut 0 shed 0\n"
-    yield f"budget stamps {replay.stamp} peak {replay.peak} refused 0\n"
+            yield f"dir {conversation.number} {way} {half.numbers()}\n"
+            halves.append(half)
+    payload, delivered, shed = (sum(getattr(half, name) for half in halves) for name in ("sent", "delivered", "shed"))
+    yield f"records {replay.records} accepted {replay.records} filtered 0 other 0 fragment 0 short 0\n"
+    yield f"bytes payload {payload} delivered {delivered} duplicate 0 late 0 cut 0 shed {shed}\n"
+    yield f"budget stamps {replay.stamp} peak {replay.peak} refused {replay.refused}\n"
     yield "status 0\n"
 
 
-def files_of(capture):
+def files_of(capture, limit=LIMIT):
     """The bytes of OUT.0 and of OUT.report."""
-    replay = replay_of(capture)
+    replay = replay_of(capture, limit)
     return "".join(replay.lines).encode("ascii"), "".join(report_lines(replay)).encode("ascii")
 
 
@@ -179,9 +212,10 @@ def main():
     parser = argparse.ArgumentParser(description="Writes OUT.0 and OUT.report of a capture.")
     parser.add_argument("capture")
     parser.add_argument("out")
+    parser.add_argument("--limit", type=int, default=LIMIT, help="bytes of the budget")
     words = parser.parse_args()
     with open(words.capture, "rb") as capture:
-        texts = files_of(capture.read())
+        texts = files_of(capture.read(), words.limit)
     for ending, text in zip((".0", ".report"), texts):
         with open(words.out + ending, "wb") as out:
             out.write(text)
