@@ -7,12 +7,13 @@ use Rattle.pcapfile.specs.declared.frame_fault.FrameFault.{FrameFault}
 use Rattle.pcapfile.specs.declared.frame_fault.FrameFault.TheVariants as fault
 use Rattle.pcapfile.specs.declared.next.Next.TheVariants as next
 use Rattle.pcapfile.specs.Head.{head_of}
-use Rattle.pcapfile.specs.Capture.{End, Ends, Records, size_of, records_from, behind_head}
+use Rattle.pcapfile.specs.Capture.{End, Records, size_of, records_from, behind_head}
 use Rattle.pcapfile.specs.State.{State}
-use Rattle.pcapfile.specs.Reading.{Answers, place_at, end_of_fault}
-use Rattle.pcapfile.specs.Laws.{Runs, starts, Feeds, opened}
+use Rattle.pcapfile.specs.Reading.{Answers, end_of_fault}
+use Rattle.pcapfile.specs.Fed.{records_of, StandsFor, IsFed, EndsForGood}
 use Rattle.pcapfile.proofs.RecordLemmas.{fits}
-use Rattle.pcapfile.proofs.RunLemmas.{however_fed}
+use Rattle.pcapfile.proofs.FedLemmas.{capture_has_records}
+use Rattle.std.proofs.lemmas.List.{append-nil}
 use Rattle.labtop.specs.Drill.{limits, whole_in, whole_of}
 
 -- a record takes its bytes from those that are left
@@ -27,22 +28,25 @@ abbrev records_in : Records → Result (FileHead × Records) HeadFault → Recor
 records_in none (Ok capture) = capture.1
 records_in none (Err fault) = none
 
--- what was read up to an end is the records of the capture
-pub whole_of-read : (file rest : List ℕ) (head : FileHead) (frames : List Frame) (s : State) (end : End) → head_of file ≡ Ok head → rest ≡ drop 24 file
-    → Runs (opened head limits) frames rest s → place_at s ≡ Ends end → whole_in frames end ≡ whole_of (records_from (suc (suc (length file))) head limits 24 0 rest)
+-- records that the bytes behind the file header have are those of the capture
+pub whole_of-read : (file rest : List ℕ) (head : FileHead) (frames : List Frame) (end : End) → head_of file ≡ Ok head → rest ≡ drop 24 file
+    → records_of head limits rest ≡ record { frames = frames; end = end } → whole_in frames end ≡ whole_of (records_from (suc (suc (length file))) head limits 24 0 rest)
 unfolding whole_of
-whole_of-read file rest head frames s end opens behind run ends =
+whole_of-read file rest head frames end opens behind read =
     let all : Records = record { frames = frames; end = end } in
     let from : List ℕ → Records = λ bytes. records_from (suc (suc (length file))) head limits 24 0 bytes in
-    let read = however_fed limits file head frames s end opens (subst (λ (bytes : List ℕ). Runs (opened head limits) frames bytes s) behind run) ends in
-    let same : from (drop 24 file) ≡ all = ap (records_in all) (sym (ap (behind_head limits file) opens) ∙ read) in
-    sym (ap (λ (bytes : List ℕ). whole_of (from bytes)) behind ∙ ap whole_of same)
+    let captured = sym (ap (behind_head limits file) opens) ∙ capture_has_records limits file head opens in
+    let same : from (drop 24 file) ≡ records_of head limits (drop 24 file) = ap (records_in all) captured in
+    sym (ap (λ (bytes : List ℕ). whole_of (from bytes)) behind ∙ ap whole_of (same ∙ ap (records_of head limits) (sym behind) ∙ read))
+
+-- a fault that stays is there now
+pub fault_now : (rest : List ℕ) (head : FileHead) (frames : List Frame) (x : FrameFault) → EndsForGood head limits rest frames x → records_of head limits rest ≡ record { frames = frames; end = end_of_fault x }
+fault_now rest head frames x h = ap (records_of head limits) (sym (append-nil rest)) ∙ h []
 
 -- what is fed to a new object is what came, and no record was read yet
-pub started : (head : FileHead) (rest : List ℕ) (new s : State) (found : List Frame) → new ≡ opened head limits → Feeds new rest s → found ≡ [] → Runs (opened head limits) found rest s
-started head rest new s found e fed none =
-    let start = opened head limits in
-    subst (λ (frames : List Frame). Runs start frames rest s) (sym none) (fed start [] [] (subst (λ (x : State). Runs start [] [] x) (sym e) starts))
+pub started : (head : FileHead) (rest : List ℕ) (new s : State) (found : List Frame) → StandsFor head limits [] [] new → IsFed new rest s → found ≡ [] → StandsFor head limits rest found s
+started head rest new s found nothing fed none =
+    subst (λ (frames : List Frame). StandsFor head limits rest frames s) (sym none) (fed head limits [] [] nothing)
 
 -- a capture that ends in a fault isn't whole
 pub whole_in-fault : (frames : List Frame) (x : FrameFault) → whole_in frames (end_of_fault x) ≡ None

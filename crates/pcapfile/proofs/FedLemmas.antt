@@ -13,8 +13,8 @@ use Rattle.pcapfile.specs.State.{State}
 use Rattle.pcapfile.specs.Format.{head_len}
 use Rattle.pcapfile.specs.Capture.{Limits, End, Whole, Cut, TooBig, TooLong, Place, Ends, Holds, Records, behind, behind_head, records_from, size_of}
 use Rattle.pcapfile.specs.Reading.{Answers, IsOpen, place_at, passed, records_at, end_of_fault, end_of_tail}
-use Rattle.pcapfile.specs.Laws.{fed}
-use Rattle.pcapfile.specs.Fed.{records_of, CaptureHasRecords, StandsFor, StandsForNothing, IsFed, IsOpenBehind, EndsForGood, IsNext, IsFinished}
+use Rattle.pcapfile.specs.Laws.{fed, opened}
+use Rattle.pcapfile.specs.Fed.{records_of, CaptureHasRecords, StandsFor, IsFed, IsOpenBehind, EndsForGood, IsNext, IsFinished}
 use Rattle.pcapfile.proofs.RecordLemmas.{fits, records_from-turns}
 use Rattle.pcapfile.proofs.CaptureLemmas.{records_at-ends, records_at-holds}
 use Rattle.pcapfile.proofs.RunLemmas.{fault_stays, record_stays}
@@ -123,7 +123,7 @@ stands_fits : (head : FileHead) (limits : Limits) (bytes : List ℕ) (given : Li
 unfolding begun
 stands_fits head limits bytes given s h = given_fit given (suc (length bytes)) (begun head limits bytes) h.first
 
-pub stands_for_nothing : (head : FileHead) (limits : Limits) → StandsForNothing head limits
+pub stands_for_nothing : (head : FileHead) (limits : Limits) → StandsFor head limits [] [] (opened head limits)
 stands_for_nothing head limits = record { first = refl; same_head = refl; same_limits = refl; offset = refl; number = refl; left = refl }
 
 pub stands_fed : (s : State) (piece : List ℕ) → IsFed s piece (fed s piece)

@@ -11,7 +11,6 @@ use Rattle.pcapfile.specs.Format.{head_len}
 use Rattle.pcapfile.specs.Head.{head_of}
 use Rattle.pcapfile.specs.Capture.{Limits, Records, size_of, records_from, capture_of}
 use Rattle.pcapfile.specs.Reading.{end_of_fault, end_of_tail}
-use Rattle.pcapfile.specs.Laws.{opened}
 
 -- A capture that comes in pieces, in the words of plain lists: the bytes behind the file header that were fed so far,
 -- and the records that were given out so far.
@@ -35,10 +34,6 @@ pub record StandsFor (head : FileHead) (limits : Limits) (fed : List ℕ) (given
   pub offset : s.at ≡ head_len + sum_by size_of given
   pub number : s.count ≡ length given
   pub left : s.rest ≡ drop (sum_by size_of given) fed
-
--- a reader to which nothing came stands for empty lists
-abbrev pub StandsForNothing : FileHead → Limits → Type 0
-StandsForNothing head limits = StandsFor head limits [] [] (opened head limits)
 
 -- a piece was fed: whatever the contents stood for, they stand for it with the piece behind the bytes
 abbrev pub IsFed : State → List ℕ → State → Type 0

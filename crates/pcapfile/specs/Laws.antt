@@ -3,8 +3,6 @@ use Rattle.std.specs.List.{sum_by}
 use Rattle.pcapfile.specs.declared.head.FileHead.{FileHead}
 use Rattle.pcapfile.specs.declared.frame.Frame.{Frame}
 use Rattle.pcapfile.specs.declared.frame_fault.FrameFault.{FrameFault}
-use Rattle.pcapfile.specs.declared.next.Next.{Next}
-use Rattle.pcapfile.specs.declared.next.Next.TheVariants as next
 use Rattle.pcapfile.specs.State.{State}
 use Rattle.pcapfile.specs.Format.{head_len, header_len, longest}
 use Rattle.pcapfile.specs.Head.{head_of}
@@ -112,28 +110,6 @@ abbrev pub RecordStays : State → Frame → Type 0
 RecordStays s frame =
     (more : List ℕ) → place_at s ≡ Holds frame → (place_at (fed s more) ≡ Holds frame) × (passed (fed s more) frame ≡ fed (passed s frame) more)
 
--- what was read and what came from a state on, in any order, up to another: records were passed, each where it stood
--- whole, and pieces were fed
-pub data Runs (start : State) : List Frame → List ℕ → State → Type 0 where
-  starts : Runs start [] [] start
-  feeds : {frames : List Frame} {given : List ℕ} {s : State} → (piece : List ℕ) → Runs start frames given s → Runs start frames (given ++ piece) (fed s piece)
-  passes : {frames : List Frame} {given : List ℕ} {s : State} → (frame : Frame) → Runs start frames given s → place_at s ≡ Holds frame → Runs start (frames ++ frame ∷ []) given (passed s frame)
-
--- what a call does to every run that led to the state before it: a piece was fed, or a record was passed
-abbrev pub Feeds : State → List ℕ → State → Type 0
-Feeds old piece new = (start : State) (frames : List Frame) (given : List ℕ) → Runs start frames given old → Runs start frames (given ++ piece) new
-
-abbrev pub Reads : State → Next → State → Type 0
-Reads old (next.Whole frame) new = (start : State) (frames : List Frame) (given : List ℕ) → Runs start frames given old → Runs start (frames ++ frame ∷ []) given new
-Reads old next.More new = (start : State) (frames : List Frame) (given : List ℕ) → Runs start frames given old → Runs start frames given new
-Reads old (next.Fault fault) new = (start : State) (frames : List Frame) (given : List ℕ) → Runs start frames given old → Runs start frames given new
-
 -- the state behind the file header, to which nothing came
 abbrev pub opened : FileHead → Limits → State
 opened head limits = record { head = head; limits = limits; at = head_len; count = 0; rest = [] }
-
--- however the bytes behind the header of a file were fed, the records that were read up to an end are those of the capture, and the end is its end
-abbrev pub HoweverFed : Limits → List ℕ → Type 0
-HoweverFed limits file =
-    (head : FileHead) (frames : List Frame) (s : State) (end : End) → head_of file ≡ Ok head → Runs (opened head limits) frames (drop head_len file) s → place_at s ≡ Ends end
-    → capture_of limits file ≡ Ok (head, record { frames = frames; end = end })

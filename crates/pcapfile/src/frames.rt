@@ -60,12 +60,13 @@ impl Frames {
     ghost use Rattle.pcapfile.specs.State.{State};
     ghost use Rattle.pcapfile.specs.Capture.{Ends};
     ghost use Rattle.pcapfile.specs.Reading.{place_at, Answers, IsOpen, IsRecord, end_of_tail};
-    ghost use Rattle.pcapfile.specs.Laws.{opened, Feeds, Reads};
-    ghost use Rattle.pcapfile.specs.Fed.{IsFed, IsNext};
+    ghost use Rattle.pcapfile.specs.Laws.{opened};
+    ghost use Rattle.pcapfile.specs.Fed.{StandsFor, IsFed, IsNext, IsFinished};
 
     /// Nothing has come yet. At most `most_frames` records and `most_bytes` bytes of the file are read.
     pub fn new(alloc: Global, head: FileHead, most_frames: u32, most_bytes: u64) -> Frames
-        ensures { result ≡ opened head (record { frames = most_frames; bytes = most_bytes }) }
+        ensures opened { result ≡ opened head (record { frames = most_frames; bytes = most_bytes }) }
+        ensures stands { StandsFor head (record { frames = most_frames; bytes = most_bytes }) [] [] result }
     {
         Frames {
             alloc,
@@ -86,7 +87,6 @@ impl Frames {
         ensures err { OnErr result (self.new ≡ self.old) }
         ensures memory { OnErr result (0 < length piece.now) }
         ensures fed { OnOk result (IsFed self.old piece.now self.new) }
-        ensures run { OnOk result (Feeds self.old piece.now self.new) }
     {
         self.stream.extend_from_slice(piece)?;
         Ok(())
@@ -99,7 +99,6 @@ impl Frames {
         ensures err { OnErr result (self.new ≡ self.old) }
         ensures memory { OnErr result (IsRecord (place_at self.old)) }
         ensures given { IfOk result (λ next. IsNext self.old next self.new) }
-        ensures run { IfOk result (λ next. Reads self.old next self.new) }
     {
         let next = self.read()?;
         Ok(next)
@@ -138,11 +137,11 @@ impl Frames {
         }
     }
 
-    /// How the stream ended, where the last `next` answered `More`.
+    // The bytes that are left behind the last record, where no more come.
     #[tactic(auto, unfolding(crate::specs::Capture::place_of, crate::specs::Capture::record_at))]
-    pub fn finish(self) -> Tail
-        requires { IsOpen (place_at self) }
-        ensures { place_at self ≡ Ends (end_of_tail result) }
+    fn tail(&self) -> Tail
+        requires { IsOpen (place_at self.now) }
+        ensures { place_at self.now ≡ Ends (end_of_tail result) }
     {
         let left = self.stream.len() - self.place;
         if left == 0 {
@@ -150,5 +149,14 @@ impl Frames {
         } else {
             Tail::Cut { bytes: left as u64 }
         }
+    }
+
+    /// How the stream ended, where the last `next` answered `More`.
+    pub fn finish(self) -> Tail
+        requires { IsOpen (place_at self) }
+        ensures tail { place_at self ≡ Ends (end_of_tail result) }
+        ensures finished { IsFinished self result }
+    {
+        self.tail()
     }
 }

@@ -5,11 +5,8 @@ ghost use Rattle.pcapfile.specs.declared.frame_fault.FrameFault.{FrameFault};
 ghost use Rattle.pcapfile.specs.declared.head.FileHead.{FileHead};
 ghost use Rattle.pcapfile.specs.Capture.{Limits};
 ghost use Rattle.pcapfile.specs.State.{State};
-ghost use Rattle.pcapfile.specs.declared.tail.Tail.{Tail};
-ghost use Rattle.pcapfile.specs.Capture.{Ends};
-ghost use Rattle.pcapfile.specs.Reading.{place_at, end_of_tail};
-ghost use Rattle.pcapfile.specs.Laws.{RecordsStand, CaptureAccounts, NoOthersDo, TurnsServe, FaultStays, RecordStays, HoweverFed};
-ghost use Rattle.pcapfile.specs.Fed.{CaptureHasRecords, StandsForNothing, IsFinished};
+ghost use Rattle.pcapfile.specs.Laws.{RecordsStand, CaptureAccounts, NoOthersDo, TurnsServe, FaultStays, RecordStays};
+ghost use Rattle.pcapfile.specs.Fed.{CaptureHasRecords};
 ghost use Rattle.pcapfile.specs.Written.{Item, IsReadBack};
 
 use crate::{FileHead, FrameFault, HeadFault, Tail};
@@ -47,26 +44,9 @@ pub fn a_record_stays()
     ensures { (s : State) (frame : Frame) → RecordStays s frame }
 {}
 
-/// However the bytes behind a file header are fed, in whatever pieces and with records read between them, the records
-/// up to the end are those of the capture, and the end is its end.
-pub fn records_are_those_however_fed()
-    ensures { (limits : Limits) (file : List ℕ) → HoweverFed limits file }
-{}
-
 /// The records of a capture, and its end, are those of the bytes behind its file header.
 pub fn a_capture_has_the_records_of_its_bytes()
     ensures { (limits : Limits) (file : List ℕ) → CaptureHasRecords limits file }
-{}
-
-/// A new reader stands for no bytes and no records.
-pub fn a_new_reader_stands_for_nothing()
-    ensures { (head : FileHead) (limits : Limits) → StandsForNothing head limits }
-{}
-
-/// Where a reader is finished, the bytes that it stands for have the records that were given out, and the end that
-/// `finish` tells.
-pub fn the_end_is_that_of_the_bytes()
-    ensures { (s : State) (tail : Tail) → place_at s ≡ Ends (end_of_tail tail) → IsFinished s tail }
 {}
 
 /// What is written by `put_head` and then any number of times by `put_frame` is read as a whole capture of just these
