@@ -1,10 +1,11 @@
-ghost use Rattle.std.specs.Prelude.{◌<◌};
+ghost use Rattle.std.specs.Prelude.{◌<◌, length};
 
 use crate::captures::{
     BIG, DELIVERY, ONE, REPORT, REPORT_OF_NANOSECONDS, WORDS, changed, expect_files, opened,
     put_record, shelf_with,
 };
 use labtop::{Status, lab_top};
+use pcapfile::put_frame;
 use scap_world::{MemShelf, Memory};
 use std::alloc::{AllocError, Global};
 use std::process::Abort;
@@ -68,6 +69,63 @@ fn captures_are_read_in_their_order_of_bytes_and_unit(rt: HostRuntime) -> Result
         assert_eq!(rt; done.status, Status::Done);
         expect_files(&rt, &shelf, Some(DELIVERY), Some(report));
     }
+    Ok(())
+}
+
+/// A capture of a link, with one record at 1 s and 5 us.
+fn capture_over(alloc: Global, link: u16, frame: &[u8]) -> Result<Vec<u8>, Fail>
+    requires { length frame.now < 60_000 }
+{
+    let bytes = link.to_le_bytes();
+    let mut capture = Vec::from_slice(alloc, &ONE[..20])?;
+    capture.extend_from_slice(&[bytes[0], bytes[1], 0, 0])?;
+    put_frame(&mut capture, 1, 5, frame)?;
+    Ok(capture)
+}
+
+/// The run over a link whose header, with tags, stands in front of the packet.
+fn expect_over(rt: &impl Abort, alloc: Global, link: u16, header: &[u8]) -> Result<(), Fail>
+    requires { length header.now < 100 }
+{
+    let mut frame = Vec::from_slice(alloc, header)?;
+    frame.extend_from_slice(&ONE[54..])?;
+    let mut shelf = shelf_with(alloc, &capture_over(alloc, link, &frame)?)?;
+    let done = lab_top(alloc, &WORDS, &mut shelf);
+    assert_eq!(rt; done.status, Status::Done, "over {link}");
+    expect_files(rt, &shelf, Some(DELIVERY), Some(REPORT));
+    Ok(())
+}
+
+#[test]
+fn datagrams_are_read_over_each_link_and_behind_tags(rt: HostRuntime) -> Result<(), Fail> {
+    let alloc = rt.alloc();
+    let cooked = [0, 0, 0, 1, 0, 6, 2, 0, 0, 0, 0, 1, 0, 0, 8, 0];
+    let cooked_2 = [8, 0, 0, 0, 0, 0, 0, 1, 0, 1, 0, 6, 2, 0, 0, 0, 0, 1, 0, 0];
+    let tagged = [
+        2, 0, 0, 0, 0, 2, 2, 0, 0, 0, 0, 1, 0x88, 0xa8, 0, 7, 0x81, 0, 0, 9, 8, 0,
+    ];
+    expect_over(&rt, alloc, 101, &[])?;
+    expect_over(&rt, alloc, 113, &cooked)?;
+    expect_over(&rt, alloc, 276, &cooked_2)?;
+    expect_over(&rt, alloc, 1, &tagged)?;
+    Ok(())
+}
+
+#[test]
+fn datagrams_are_read_over_ipv6(rt: HostRuntime) -> Result<(), Fail> {
+    let alloc = rt.alloc();
+    // From 2001:db8::1 to 2001:db8::2, behind eight bytes of hop-by-hop options.
+    let packet = [
+        0x60, 0, 0, 0, 0, 18, 0, 64, 0x20, 1, 0x0d, 0xb8, 0, 0, 0, 0, 0, 0, 0, 0, 0, 0, 0, 1, 0x20,
+        1, 0x0d, 0xb8, 0, 0, 0, 0, 0, 0, 0, 0, 0, 0, 0, 2, 17, 0, 1, 4, 0, 0, 0, 0, 0x13, 0x88, 0,
+        0x35, 0, 10, 0, 0, 0x68, 0x69,
+    ];
+    let mut shelf = shelf_with(alloc, &capture_over(alloc, 101, &packet)?)?;
+    let done = lab_top(alloc, &WORDS, &mut shelf);
+    assert_eq!(rt; done.status, Status::Done);
+    let delivery =
+        "new 1 udp 2001:0db8:0000:0000:0000:0000:0000:0001 5000 2001:0db8:0000:0000:0000:0000:0000:0002 53\ndata 1 > 0 0 0 0 6869\nend 1 finish\n";
+    expect_files(&rt, &shelf, Some(delivery), Some(REPORT));
     Ok(())
 }
 

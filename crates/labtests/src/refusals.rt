@@ -43,7 +43,7 @@ fn one_record_that_is_not_built_is_enough(rt: HostRuntime) -> Result<(), Fail> {
 fn what_is_not_built_creates_no_file(rt: HostRuntime) -> Result<(), Fail> {
     let alloc = rt.alloc();
     let cases: [&[(usize, u8)]; 16] = [
-        // IPv6, tags, and another EtherType
+        // said to be IPv6, a tag or a service tag with another EtherType behind it, and another EtherType
         &[(52, 0x86), (53, 0xdd)],
         &[(52, 0x81)],
         &[(52, 0x88), (53, 0xa8)],
@@ -76,9 +76,9 @@ fn what_is_not_built_creates_no_file(rt: HostRuntime) -> Result<(), Fail> {
 }
 
 #[test]
-fn other_links_are_not_built(rt: HostRuntime) -> Result<(), Fail> {
+fn a_frame_is_read_by_its_link(rt: HostRuntime) -> Result<(), Fail> {
     let alloc = rt.alloc();
-    // Raw IP, and both headers of Linux cooked captures.
+    // The Ethernet frame carries nothing as raw IP and behind both headers of Linux cooked captures.
     let cases: [&[(usize, u8)]; 3] = [&[(20, 101)], &[(20, 113)], &[(20, 20), (21, 1)]];
     for changes in cases {
         let mut shelf = shelf_with(alloc, &changed(alloc, changes)?)?;

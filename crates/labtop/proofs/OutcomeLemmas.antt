@@ -20,11 +20,10 @@ use Rattle.streamkey.specs.declared.addr.Addr.{Addr}
 use Rattle.streamkey.specs.declared.end.End.{End}
 use Rattle.streamkey.specs.declared.key.Key.{Key}
 use Rattle.streamkey.specs.declared.proto.Proto.{Proto}
-use Rattle.streamkey.specs.declared.proto.Proto.TheVariants.{Udp}
+use Rattle.streamkey.specs.declared.proto.Proto.TheVariants.{Tcp, Udp}
 use Rattle.streamkey.specs.Order.{end_before}
 use Rattle.streamkey.specs.declared.toward.Toward.{Toward}
 use Rattle.streamkey.specs.declared.toward.Toward.TheVariants.{Up, Down}
-use Rattle.labtop.specs.declared.transport.Skip.TheVariants as skip
 use Rattle.streamdefs.specs.Case.{line_of}
 use Rattle.streamdefs.specs.Lists.{Each, total}
 use Rattle.streamdefs.specs.Lawful.{Run}
@@ -38,10 +37,11 @@ use Rattle.labtop.specs.declared.status.Status.{Status}
 use Rattle.labtop.specs.Drill.{Delivers, NotBuilt, is_long, of_packets}
 use Rattle.labtop.specs.Gives.{Gives, HasTexts}
 use Rattle.labtop.specs.Headline.{all_accepted, done, report_for, run_in}
-use Rattle.labtop.specs.Linkip.{Carried, Ip, Fragment, Other, Short, Unread, network, short_at}
-use Rattle.labtop.specs.Porthdr.{Kind, Accepted, Skipped, Later, end_at, kind_of, transport, udp}
+use Rattle.pcapfile.specs.declared.link.Link.{Link}
+use Rattle.porthdr.specs.Kind.{Kind, Accepted, Skipped}
+use Rattle.porthdr.specs.Transport.{kind_of}
 use Rattle.labtop.specs.ReportLines.{lines_of, lines_with, numbers_line, over_all, totals_line}
-use Rattle.labtop.specs.Scapconf.{accepted_at, last_clock, packets_from}
+use Rattle.labtop.specs.Scapconf.{accepted_at, datagram_of, last_clock, packets_from}
 use Rattle.labtop.specs.Settings.{terms_of}
 use Rattle.labtop.proofs.PacketsLemmas.{from_packet}
 
@@ -92,56 +92,19 @@ has_texts m packets o text table stamps p r h delivery report = (
 
 -- The packets of a capture.
 
--- the protocol of an accepted record is UDP
-abbrev IsUdp : Kind → Type 0
-IsUdp (Accepted key toward declared payload) = key.proto ≡ Udp
-IsUdp (Skipped skip) = Unit {0}
-IsUdp Later = Unit {0}
-
-record HasUdp (kind : Kind) : Type 0 where
-  holds : IsUdp kind
-
-either : (b : Bool) {x y : Kind} → HasUdp x → HasUdp y → HasUdp (cond b x y)
-either true h k = h
-either false h k = k
-
-skipped : (kind : Kind) → IsUdp kind → HasUdp kind
-skipped kind h = record { holds = h }
-
-key_is : (b : Bool) (x y : Key × Toward) → x.0.proto ≡ Udp → y.0.proto ≡ Udp → (cond b x y).0.proto ≡ Udp
-key_is true x y p q = p
-key_is false x y p q = q
-
-key_of_udp : (a b : End) → (key_of Udp a b).0.proto ≡ Udp
-key_of_udp a b = key_is (end_before b a) (record { proto = Udp; low = b; high = a }, Down) (record { proto = Udp; low = a; high = b }, Up) refl refl
-
-udp_is : (source target : Addr) (declared : ℕ) (body : List ℕ) → HasUdp (udp source target declared body)
-unfolding udp
-udp_is source target declared body =
-    either (nat_lt (length body) 8) (skipped (Skipped skip.Short) tt)
-    (either (not (nat_eq (short_at body 4) 0) && nat_lt (short_at body 4) 8) (skipped (Skipped skip.Short) tt) (record { holds = key_of_udp (end_at source body 0) (end_at target body 2) }))
-
-kind_is : (c : Carried) → HasUdp (transport c)
-kind_is (Ip proto source target declared body) = either (nat_eq proto 17) (udp_is source target declared body) (skipped Later tt)
-kind_is Fragment = skipped (Skipped skip.Fragment) tt
-kind_is Other = skipped (Skipped skip.Other) tt
-kind_is Short = skipped (Skipped skip.Short) tt
-kind_is Unread = skipped Later tt
-
-frame_is : (frame : List ℕ) → IsUdp (kind_of frame)
-unfolding kind_of
-frame_is frame = (kind_is (network frame)).holds
-
 -- an accepted record's packet
 abbrev IsFirst : (number now : ℕ) → Option Packet → Type 0
 IsFirst number now None = Unit {0}
 IsFirst number now (Some p) = (p.number ≡ number) × (p.now ≡ now) × (is_tcp p ≡ false)
 
-is_first : (number now : ℕ) (kind : Kind) → IsUdp kind → IsFirst number now (accepted_at number now kind)
-is_first number now (Accepted key toward declared payload) h =
-    (refl, refl, ap (λ (proto : Proto). is_tcp (record { number = number; now = now; key = record key { proto = proto }; toward = toward; seq = 0; flags = 0; declared = declared; payload = payload })) h)
-is_first number now (Skipped skip) h = tt
-is_first number now Later h = tt
+first_of_kind : (number now : ℕ) (proto : Proto) (p : Packet) → proto ≡ p.key.proto → p.number ≡ number → p.now ≡ now → IsFirst number now (datagram_of proto p)
+first_of_kind number now Udp p e a b = (a, b, ap (λ (proto : Proto). is_tcp (record p { key = record p.key { proto = proto } })) (sym e))
+first_of_kind number now Tcp p e a b = tt
+
+is_first : (number now : ℕ) (kind : Kind) → IsFirst number now (accepted_at number now kind)
+is_first number now (Accepted key toward seq flags declared payload) =
+    first_of_kind number now key.proto (record { number = number; now = now; key = key; toward = toward; seq = 0; flags = 0; declared = declared; payload = payload }) refl refl refl
+is_first number now (Skipped skip) = tt
 
 -- the clocks don't fall
 abbrev AreClocked : ℕ → List Packet → Type 0
@@ -170,12 +133,12 @@ one_more number clock now (Some p) (Some packets) l f h = record {
   clocks = (omega (arith, l, f.1), subst (λ (n : ℕ). AreClocked n packets) (sym f.1) h.clocks);
 }
 
-all_read : (number clock : ℕ) (frames : List Frame) → AreReadIn number clock (packets_from number clock frames)
+all_read : (link : Link) (number clock : ℕ) (frames : List Frame) → AreReadIn number clock (packets_from link number clock frames)
 unfolding packets_from
-all_read number clock [] = record { rises = tt; udp = tt; clocks = tt }
-all_read number clock (frame ∷ frames) =
-    one_more number clock (max clock frame.moment) (accepted_at number (max clock frame.moment) (kind_of frame.bytes)) (packets_from (number + 1) (max clock frame.moment) frames) (omega arith)
-    (is_first number (max clock frame.moment) (kind_of frame.bytes) (frame_is frame.bytes)) (all_read (number + 1) (max clock frame.moment) frames)
+all_read link number clock [] = record { rises = tt; udp = tt; clocks = tt }
+all_read link number clock (frame ∷ frames) =
+    one_more number clock (max clock frame.moment) (accepted_at number (max clock frame.moment) (kind_of link frame.bytes)) (packets_from link (number + 1) (max clock frame.moment) frames) (omega arith)
+    (is_first number (max clock frame.moment) (kind_of link frame.bytes)) (all_read link (number + 1) (max clock frame.moment) frames)
 
 last_later : (clock : ℕ) (packets : List Packet) → AreClocked clock packets → clock ≤ last_clock clock packets
 last_later clock [] h = omega arith
@@ -214,14 +177,14 @@ capture_is m (p ∷ packets) h brief =
       less,
     )
 
-pub capture_of : (m : MarkParts) (frames : List Frame) (packets : List Packet) → Some packets ≡ packets_from 1 0 frames → is_long packets ≡ false
+pub capture_of : (m : MarkParts) (link : Link) (frames : List Frame) (packets : List Packet) → Some packets ≡ packets_from link 1 0 frames → is_long packets ≡ false
     → IsCapture (terms_of m) (first_of packets) packets × (last_clock 0 packets < first_of packets + IDLE)
-capture_of m frames packets e brief = capture_is m packets (subst (AreReadIn 1 0) (sym e) (all_read 1 0 frames)) brief
+capture_of m link frames packets e brief = capture_is m packets (subst (AreReadIn 1 0) (sym e) (all_read link 1 0 frames)) brief
 
 -- what is given of packets that are delivered
-pub gives_texts : (m : MarkParts) (r : Result Outcome Status) (frames : List Frame) (packets : List Packet) → Some packets ≡ packets_from 1 0 frames → is_long packets ≡ false
-    → Gives m r (Delivers packets) → Gives m r (of_packets (packets_from 1 0 frames))
-gives_texts m r frames packets e brief h =
+pub gives_texts : (m : MarkParts) (r : Result Outcome Status) (link : Link) (frames : List Frame) (packets : List Packet) → Some packets ≡ packets_from link 1 0 frames → is_long packets ≡ false
+    → Gives m r (Delivers packets) → Gives m r (of_packets (packets_from link 1 0 frames))
+gives_texts m r link frames packets e brief h =
     subst (λ (o : Option (List Packet)). Gives m r (of_packets o)) e (subst (λ (b : Bool). Gives m r (cond b NotBuilt (Delivers packets))) (sym brief) h)
 
 -- sums by either word

@@ -12,20 +12,19 @@ use Rattle.pcapfile.specs.Head.{head_of}
 use Rattle.labtop.specs.declared.capture.TheConstants.{MOST_BUILT}
 use Rattle.labtop.specs.declared.outcome.Outcome.{Outcome}
 use Rattle.labtop.specs.declared.status.Status.{Status}
-use Rattle.labtop.specs.Drill.{Verdict, Refused, NotBuilt, limits, is_built, of_capture, of_frames, whole_of, verdict_of}
+use Rattle.labtop.specs.Drill.{Verdict, Refused, NotBuilt, limits, of_capture, of_frames, whole_of, verdict_of}
 use Rattle.labtop.specs.Gives.{Gives}
 use Rattle.labtop.proofs.HeadLemmas.{head_of-append}
 
 -- a verdict by the head and the records
-pub verdict_of_frames : (bytes : List ℕ) (head : FileHead) (o : Option (List Frame)) (rest : List ℕ) → head_of bytes ≡ Ok head → is_built head ≡ true → nat_lt MOST_BUILT (length bytes) ≡ false
-    → rest ≡ drop 24 bytes → o ≡ whole_of (records_from (suc (suc (length bytes))) head limits 24 0 rest) → verdict_of bytes ≡ of_frames o
+pub verdict_of_frames : (bytes : List ℕ) (head : FileHead) (o : Option (List Frame)) (rest : List ℕ) → head_of bytes ≡ Ok head → nat_lt MOST_BUILT (length bytes) ≡ false
+    → rest ≡ drop 24 bytes → o ≡ whole_of (records_from (suc (suc (length bytes))) head limits 24 0 rest) → verdict_of bytes ≡ of_frames head.link o
 unfolding verdict_of
-verdict_of_frames bytes head o rest h built small behind same =
+verdict_of_frames bytes head o rest h small behind same =
     ap (λ (r : Result FileHead HeadFault). of_capture (length bytes) (behind_head limits bytes r)) h
-    ∙ ap (λ (b : Bool). cond (not b || nat_lt MOST_BUILT (length bytes)) NotBuilt (of_frames (whole_of (records_from (suc (suc (length bytes))) head limits 24 0 (drop 24 bytes))))) built
-    ∙ ap (λ (b : Bool). cond b NotBuilt (of_frames (whole_of (records_from (suc (suc (length bytes))) head limits 24 0 (drop 24 bytes))))) small
-    ∙ ap (λ (r : List ℕ). of_frames (whole_of (records_from (suc (suc (length bytes))) head limits 24 0 r))) (sym behind)
-    ∙ ap of_frames (sym same)
+    ∙ ap (λ (b : Bool). cond b NotBuilt (of_frames head.link (whole_of (records_from (suc (suc (length bytes))) head limits 24 0 (drop 24 bytes))))) small
+    ∙ ap (λ (r : List ℕ). of_frames head.link (whole_of (records_from (suc (suc (length bytes))) head limits 24 0 r))) (sym behind)
+    ∙ ap (of_frames head.link) (sym same)
 
 pub gives_at : (m : MarkParts) (r : Result Outcome Status) (v w : Verdict) → v ≡ w → Gives m r w → Gives m r v
 gives_at m r v w e h = subst (λ (x : Verdict). Gives m r x) (sym e) h
@@ -35,15 +34,10 @@ abbrev of_long : Result FileHead HeadFault → Verdict
 of_long (Err fault) = Refused fault
 of_long (Ok head) = NotBuilt
 
-or_true : (b : Bool) (v : Verdict) → cond (b || true) NotBuilt v ≡ NotBuilt
-or_true true v = refl
-or_true false v = refl
-
 by_head : (bytes : List ℕ) → nat_lt MOST_BUILT (length bytes) ≡ true → (r : Result FileHead HeadFault) → of_capture (length bytes) (behind_head limits bytes r) ≡ of_long r
 by_head bytes long (Err fault) = refl
 by_head bytes long (Ok head) =
-    ap (λ (b : Bool). cond (not (is_built head) || b) NotBuilt (of_frames (whole_of (records_from (suc (suc (length bytes))) head limits 24 0 (drop 24 bytes))))) long
-    ∙ or_true (not (is_built head)) _
+    ap (λ (b : Bool). cond b NotBuilt (of_frames head.link (whole_of (records_from (suc (suc (length bytes))) head limits 24 0 (drop 24 bytes))))) long
 
 long_verdict : (bytes : List ℕ) → MOST_BUILT < length bytes → verdict_of bytes ≡ of_long (head_of bytes)
 unfolding verdict_of

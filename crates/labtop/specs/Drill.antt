@@ -2,7 +2,6 @@ use Rattle.std.specs.Prelude.{ℕ, ◌+◌, List, [], ◌∷◌, length, Bool, t
 use Rattle.pcapfile.specs.declared.head.FileHead.{FileHead}
 use Rattle.pcapfile.specs.declared.head_fault.HeadFault.{HeadFault}
 use Rattle.pcapfile.specs.declared.link.Link.{Link}
-use Rattle.pcapfile.specs.declared.link.Link.TheVariants.{Ethernet, Raw, Cooked, Cooked2}
 use Rattle.pcapfile.specs.declared.frame.Frame.{Frame}
 use Rattle.pcapfile.specs.Capture.{Limits, End, Whole, Cut, TooBig, TooLong, Records, capture_of}
 use Rattle.labtop.specs.declared.capture.TheConstants.{MOST_FRAMES, MOST_BYTES, MOST_BUILT, IDLE}
@@ -20,16 +19,6 @@ pub data Verdict : Type 0 where
 abbrev pub limits : Limits
 limits = record { frames = MOST_FRAMES; bytes = MOST_BYTES }
 
-abbrev pub is_ethernet : Link → Bool
-is_ethernet Ethernet = true
-is_ethernet Raw = false
-is_ethernet Cooked = false
-is_ethernet Cooked2 = false
-
--- the heads that are built: those of Ethernet
-abbrev pub is_built : FileHead → Bool
-is_built head = is_ethernet head.link
-
 -- the records of a capture whose end is whole
 abbrev pub whole_in : List Frame → End → Option (List Frame)
 whole_in frames Whole = Some frames
@@ -45,19 +34,19 @@ abbrev pub is_long : List Packet → Bool
 is_long [] = false
 is_long (p ∷ packets) = nat_le (p.now + IDLE) (last_clock p.now packets)
 
--- of the packets of all records, where each record is accepted
+-- of the packets of all records, where each record is a datagram that is accepted
 abbrev pub of_packets : Option (List Packet) → Verdict
 of_packets None = NotBuilt
 of_packets (Some packets) = if is_long packets then NotBuilt else Delivers packets
 
-abbrev pub of_frames : Option (List Frame) → Verdict
-of_frames None = NotBuilt
-of_frames (Some frames) = of_packets (packets_from 1 0 frames)
+abbrev pub of_frames : Link → Option (List Frame) → Verdict
+of_frames link None = NotBuilt
+of_frames link (Some frames) = of_packets (packets_from link 1 0 frames)
 
 abbrev pub of_capture : ℕ → Result (FileHead × Records) HeadFault → Verdict
 of_capture size (Err fault) = Refused fault
 of_capture size (Ok capture) =
-    if not (is_built capture.0) || nat_lt MOST_BUILT size then NotBuilt else of_frames (whole_of capture.1)
+    if nat_lt MOST_BUILT size then NotBuilt else of_frames capture.0.link (whole_of capture.1)
 
 unfoldable pub verdict_of : List ℕ → Verdict
 verdict_of file = of_capture (length file) (capture_of limits file)

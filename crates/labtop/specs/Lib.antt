@@ -1,5 +1,3 @@
-pub mod Linkip
-pub mod Porthdr
 pub mod Scapconf
 pub mod Settings
 pub mod Headline
@@ -9,7 +7,6 @@ pub mod Words
 pub mod StatusText
 pub mod Causes
 pub mod Answers
-pub mod Views
 pub mod Gives
 pub mod ReportLines
 pub mod Rows

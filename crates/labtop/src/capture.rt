@@ -3,10 +3,10 @@ ghost use Rattle.std.specs.Prelude.{◌≡◌, ◌≤◌, ℕ, suc, List, length
 ghost use Rattle.std.specs.List.{sum_by};
 ghost use Rattle.pcapfile.specs.Capture.{records_from};
 ghost use Rattle.pcapfile.specs.Head.{head_of};
-ghost use Rattle.labtop.specs.Drill.{limits, is_built, whole_of};
+ghost use Rattle.labtop.specs.Drill.{limits, whole_of};
 
 use crate::Memory;
-use pcapfile::{FileHead, Frame, Frames, Link, Next, Tail};
+use pcapfile::{FileHead, Frame, Frames, Next, Tail};
 use std::alloc::Global;
 
 /// The most records of a capture.
@@ -47,11 +47,4 @@ pub(crate) fn whole_frames(
         Tail::Whole => Ok(Some(found)),
         Tail::Cut { .. } => Ok(None),
     }
-}
-
-/// Whether captures of that head are taken yet.
-pub(crate) fn is_known(head: FileHead) -> bool
-    ensures { result ≡ is_built head }
-{
-    head.link == Link::Ethernet
 }

@@ -1,7 +1,7 @@
 //! The commands that run in one thread, from the words and the files of a shelf to a status and the files.
 //! Each answer has its cause as a clause of `lab_top`, and the files written are the defined texts of the capture.
-//! Stands on scap_world (the files), pcapfile (the capture), streamkey (keys), datagrams (the replay), histbook (the journal),
-//! prio_budget (the marks), the definitions of streamdefs, evring, byteorder and itoa.
+//! Stands on scap_world (the files), pcapfile (the capture), linkip and porthdr (the headers), streamkey (keys), datagrams (the
+//! replay), histbook (the journal), prio_budget (the marks), the definitions of streamdefs, evring, and itoa.
 #![tactic(auto)]
 
 mod capture;
@@ -12,7 +12,6 @@ mod lab_done;
 pub mod laws;
 mod memory;
 mod names;
-mod network;
 mod outcome;
 mod packet;
 mod packets;
@@ -24,7 +23,6 @@ mod status;
 mod summary;
 mod top;
 mod totals;
-mod transport;
 mod words;
 
 pub use drill::drill_run;

@@ -8,14 +8,14 @@ ghost use Rattle.labtop.specs.Settings.{terms_of};
 ghost use Rattle.labtop.specs.declared.capture.TheConstants.{IDLE};
 ghost use Rattle.streamdefs.specs.Lists.{total};
 
-use crate::capture::{MOST_BUILT, is_known, whole_frames};
+use crate::capture::{MOST_BUILT, whole_frames};
 use crate::packets::{last_of, lasts_long, packets_in};
 use crate::settings::CHUNK;
 use crate::summary::report;
 use crate::{Memory, Status};
 use datagrams::{Datagram, WholeReplay, replay_all};
 use histbook::Journal;
-use pcapfile::{FileHead, Frame};
+use pcapfile::{FileHead, Frame, Link};
 use prio_budget::Marks;
 use std::alloc::Global;
 
@@ -45,12 +45,12 @@ fn outcome_with(alloc: Global, marks: &Marks, packets: &[Datagram<'_>]) -> Resul
 }
 
 /// The files of a capture's records.
-fn outcome_of(alloc: Global, marks: &Marks, frames: &[Frame]) -> Result<Outcome, Status>
+fn outcome_of(alloc: Global, marks: &Marks, link: Link, frames: &[Frame]) -> Result<Outcome, Status>
     requires few { length frames.now < 2 ^ 32 }
     requires fits { sum_by (λ f. length f.bytes) frames.now < 2 ^ 31 }
-    ensures { Gives marks.now result (of_packets (packets_from 1 0 frames.now)) }
+    ensures { Gives marks.now result (of_packets (packets_from link 1 0 frames.now)) }
 {
-    let found = packets_in(alloc, frames)?;
+    let found = packets_in(alloc, link, frames)?;
     let Some(packets) = found else {
         return Err(Status::Unbuilt);
     };
@@ -69,9 +69,6 @@ pub(crate) fn outcome_for(alloc: Global, marks: &Marks, bytes: &[u8]) -> Result<
         Ok(head) => head,
         Err(kind) => return Err(Status::NotPcap { kind }),
     };
-    if !is_known(head) {
-        return Err(Status::Unbuilt);
-    }
     if bytes.len() > MOST_BUILT {
         return Err(Status::Unbuilt);
     }
@@ -79,5 +76,5 @@ pub(crate) fn outcome_for(alloc: Global, marks: &Marks, bytes: &[u8]) -> Result<
     let Some(frames) = found else {
         return Err(Status::Unbuilt);
     };
-    outcome_of(alloc, marks, &frames)
+    outcome_of(alloc, marks, head.link, &frames)
 }

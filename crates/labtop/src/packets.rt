@@ -9,17 +9,18 @@ use crate::Memory;
 use crate::capture::IDLE;
 use crate::packet::packet_in;
 use datagrams::Datagram;
-use pcapfile::Frame;
+use pcapfile::{Frame, Link};
 use std::alloc::Global;
 
-/// The packets of the records, where each record is accepted.
+/// The packets of the records of a link, where each is a datagram that is accepted.
 pub(crate) fn packets_in<'a>(
     alloc: Global,
+    link: Link,
     frames: &'a [Frame],
 ) -> Result<Option<Vec<Datagram<'a>>>, Memory>
     requires few { length frames.now < 2 ^ 32 }
     requires short { sum_by (λ f. length f.bytes) frames.now < 2 ^ 31 }
-    ensures packets { IfOk result (λ found. option_map (λ v. map packet_for v.items) found ≡ packets_from 1 0 frames.now) }
+    ensures packets { IfOk result (λ found. option_map (λ v. map packet_for v.items) found ≡ packets_from link 1 0 frames.now) }
     ensures fits { IfOk result (λ found. IfSome found (λ v. sum_by (λ p. length p.payload.now) v.items ≤ sum_by (λ f. length f.bytes) frames.now)) }
 {
     let mut found = Vec::new(alloc);
@@ -28,7 +29,7 @@ pub(crate) fn packets_in<'a>(
     for frame in frames {
         number += 1;
         clock = clock.max(frame.moment);
-        let Some(packet) = packet_in(number, clock, frame) else {
+        let Some(packet) = packet_in(number, clock, link, frame) else {
             return Ok(None);
         };
         if found.push(packet).is_err() {

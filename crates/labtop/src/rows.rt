@@ -11,8 +11,8 @@ pub fn one_datagram_is_delivered()
     ensures { verdict_of one_datagram ≡ Delivers (its_packet ∷ []) }
 {}
 
-/// What is said to be IPv6 isn't built yet.
-pub fn ipv6_is_not_built()
+/// A record that is skipped isn't built yet: what is said to be IPv6, and has the version 4, is short.
+pub fn a_skipped_record_is_not_built()
     ensures { verdict_of said_ipv6 ≡ NotBuilt }
 {}
 

@@ -12,10 +12,10 @@ pub returns-in_default : goal.returns-in_default
 returns-in_default c =
     let small : nat_lt MOST_BUILT (length c.args.bytes.now) ≡ false = grind (arith, nat_tests) in
     let found = c.in_ok-found.ensures.frames c.args.bytes.now (sym c.in-Ok.ensures.first) (take_rest c.args.bytes.now 24) in
-    gives_at c.args.marks.now (Err Unbuilt) _ NotBuilt (verdict_of_frames c.args.bytes.now c.in-Ok.head None _ (sym c.in-Ok.ensures.first) (search rules) small (take_rest c.args.bytes.now 24) (rw c.in_default.is at found)) (tt {0})
+    gives_at c.args.marks.now (Err Unbuilt) _ NotBuilt (verdict_of_frames c.args.bytes.now c.in-Ok.head None _ (sym c.in-Ok.ensures.first) small (take_rest c.args.bytes.now 24) (rw c.in_default.is at found)) (tt {0})
 
 pub returns : goal.returns
 returns c =
     let small : nat_lt MOST_BUILT (length c.args.bytes.now) ≡ false = grind (arith, nat_tests) in
     let found = c.in_ok-found.ensures.frames c.args.bytes.now (sym c.in-Ok.ensures.first) (take_rest c.args.bytes.now 24) in
-    gives_at _ _ _ _ (verdict_of_frames c.args.bytes.now c.in-Ok.head (Some c.in-Some.frames.items) _ (sym c.in-Ok.ensures.first) (search rules) small (take_rest c.args.bytes.now 24) (rw c.in-Some.is at found)) (rw c.deref.ensures.value at c.outcome_of.ensures)
+    gives_at _ _ _ _ (verdict_of_frames c.args.bytes.now c.in-Ok.head (Some c.in-Some.frames.items) _ (sym c.in-Ok.ensures.first) small (take_rest c.args.bytes.now 24) (rw c.in-Some.is at found)) (rw c.deref.ensures.value at c.outcome_of.ensures)

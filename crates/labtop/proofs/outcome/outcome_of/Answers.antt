@@ -17,8 +17,8 @@ outcome_with-requires c =
 pub returns : goal.returns
 returns c =
     let packets : List Packet = map packet_for c.deref-2.result.now in
-    let read : Some (map packet_for c.in-Some.packets.items) ≡ packets_from 1 0 c.args.frames.now = rw c.in-Some.is at c.in_ok-found.ensures.packets in
-    let same : Some packets ≡ packets_from 1 0 c.args.frames.now = ap (λ (l : List Datagram). Some (map packet_for l)) c.deref-2.ensures.value ∙ read in
+    let read : Some (map packet_for c.in-Some.packets.items) ≡ packets_from c.args.link 1 0 c.args.frames.now = rw c.in-Some.is at c.in_ok-found.ensures.packets in
+    let same : Some packets ≡ packets_from c.args.link 1 0 c.args.frames.now = ap (λ (l : List Datagram). Some (map packet_for l)) c.deref-2.ensures.value ∙ read in
     let brief : is_long packets ≡ false = ap (λ (l : List Datagram). is_long (map packet_for l)) (c.deref-2.ensures.value ∙ sym c.deref.ensures.value) ∙ sym c.lasts_long.ensures ∙ c.if-lasts_long.false in
-    let capture = capture_of c.args.marks.now c.args.frames.now packets same brief in
-    gives_texts c.args.marks.now (Ok c.in_ok-outcome_with.field-0) c.args.frames.now packets same brief (c.in_ok-outcome_with.ensures (first_of packets) capture.0 capture.1)
+    let capture = capture_of c.args.marks.now c.args.link c.args.frames.now packets same brief in
+    gives_texts c.args.marks.now (Ok c.in_ok-outcome_with.field-0) c.args.link c.args.frames.now packets same brief (c.in_ok-outcome_with.ensures (first_of packets) capture.0 capture.1)
