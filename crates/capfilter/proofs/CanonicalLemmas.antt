@@ -1,7 +1,7 @@
 use Rattle.std.proofs.Common.{◌≡◌, ◌≤◌, ℕ, suc, zero, ◌+◌, max, ◌∷◌, ◌++◌, sym, refl, arith, subst, ◌⊎◌, inl, inr}
 use Rattle.capfilter.specs.declared.word.Word.TheVariants as words
-use Rattle.capfilter.specs.declared.prim.Prim.{Prim}
-use Rattle.capfilter.specs.declared.prim.Prim.TheVariants.{Tcp, Udp, Ip, Ip6, OfEnd}
+use Rattle.capfilter.specs.declared.prim.Primitive.{Primitive}
+use Rattle.capfilter.specs.declared.prim.Primitive.TheVariants.{Tcp, Udp, Ip, Ip6, OfEnd}
 use Rattle.capfilter.specs.Expr.{Expr, Test, Not, And, Or}
 use Rattle.capfilter.specs.Words.{spelling}
 use Rattle.capfilter.specs.Grammar.{Tokens, IsPrim, IsExpr, IsPrimTerm, IsNegation, IsBracketed, IsTerm, IsExprOf}
@@ -45,7 +45,7 @@ expr_of n ts (Not inner) h = h
 expr_of n ts (And left right) h = inl h
 expr_of n ts (Or left right) h = inl h
 
-prim_is : (prim : Prim) → IsFitPrim prim → IsPrim (prim_tokens prim) prim
+prim_is : (prim : Primitive) → IsFitPrim prim → IsPrim (prim_tokens prim) prim
 prim_is Tcp h = refl
 prim_is Udp h = refl
 prim_is Ip h = refl

@@ -9,8 +9,8 @@ use Rattle.capfilter.specs.declared.end_test.EndTest.TheVariants.{Host, Net, Por
 use Rattle.capfilter.specs.declared.end_test.Field.{Field}
 use Rattle.capfilter.specs.declared.end_test.Field.TheVariants as fields
 use Rattle.capfilter.specs.declared.prim.Side.TheVariants as sides
-use Rattle.capfilter.specs.declared.prim.Prim.{Prim}
-use Rattle.capfilter.specs.declared.prim.Prim.TheVariants.{Tcp, Udp, Ip, Ip6, OfEnd}
+use Rattle.capfilter.specs.declared.prim.Primitive.{Primitive}
+use Rattle.capfilter.specs.declared.prim.Primitive.TheVariants.{Tcp, Udp, Ip, Ip6, OfEnd}
 use Rattle.capfilter.specs.Expr.{Expr, Test, Not, And, Or}
 use Rattle.capfilter.specs.Words.{spelling}
 use Rattle.capfilter.specs.Addresses.{address, version_4, version_6}
@@ -24,7 +24,7 @@ use Rattle.capfilter.proofs.TokenLemmas.{tokens-blank, tokens-bracket, tokens-ru
 use Rattle.capfilter.proofs.EndTexts.{test_field, value_text, test-text, test_plain}
 
 -- the tokens of canonical texts
-abbrev pub prim_tokens : Prim → Tokens
+abbrev pub prim_tokens : Primitive → Tokens
 prim_tokens Tcp = spelling words.Tcp ∷ []
 prim_tokens Udp = spelling words.Udp ∷ []
 prim_tokens Ip = spelling words.Ip ∷ []
@@ -126,7 +126,7 @@ test_goes (Net a n) h =
     (then_goes (codes "net ") (value_text (Net a n)) (spelling words.Net ∷ []) (value_text (Net a n) ∷ []) (word_blank (codes "net") (omega arith) refl) (value_goes (Net a n) h))
 test_goes (Port port) h = then_goes (codes "port ") (decimal port) (spelling words.Port ∷ []) (decimal port ∷ []) (word_blank (codes "port") (omega arith) refl) (value_goes (Port port) h)
 
-prim_goes : (prim : Prim) → IsFitPrim prim → Goes (prim_text prim) (prim_tokens prim)
+prim_goes : (prim : Primitive) → IsFitPrim prim → Goes (prim_text prim) (prim_tokens prim)
 prim_goes Tcp h = one_word (codes "tcp") (omega arith) refl
 prim_goes Udp h = one_word (codes "udp") (omega arith) refl
 prim_goes Ip h = one_word (codes "ip") (omega arith) refl

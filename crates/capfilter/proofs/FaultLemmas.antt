@@ -11,7 +11,7 @@ use Rattle.capfilter.specs.declared.prim.Side.{Side}
 use Rattle.capfilter.specs.declared.filter_error.FilterKind.{FilterKind}
 use Rattle.capfilter.specs.declared.filter_error.FilterKind.TheVariants as kinds
 use Rattle.capfilter.specs.declared.filter_error.FilterFault.{FilterFault}
-use Rattle.capfilter.specs.declared.prim.Prim.TheVariants.{OfEnd}
+use Rattle.capfilter.specs.declared.prim.Primitive.TheVariants.{OfEnd}
 use Rattle.capfilter.specs.Expr.{Expr, Test}
 use Rattle.capfilter.specs.Words.{word, spelling}
 use Rattle.capfilter.specs.Ends.{end_test, is_end_test}

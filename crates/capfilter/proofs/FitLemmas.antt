@@ -9,8 +9,8 @@ use Rattle.capfilter.specs.declared.end_test.EndTest.{EndTest}
 use Rattle.capfilter.specs.declared.end_test.EndTest.TheVariants as tests
 use Rattle.capfilter.specs.declared.end_test.Field.{Field}
 use Rattle.capfilter.specs.declared.end_test.Field.TheVariants as fields
-use Rattle.capfilter.specs.declared.prim.Prim.{Prim}
-use Rattle.capfilter.specs.declared.prim.Prim.TheVariants.{Tcp, Udp, Ip, Ip6, OfEnd}
+use Rattle.capfilter.specs.declared.prim.Primitive.{Primitive}
+use Rattle.capfilter.specs.declared.prim.Primitive.TheVariants.{Tcp, Udp, Ip, Ip6, OfEnd}
 use Rattle.capfilter.specs.Expr.{Expr, Test, Not, And, Or}
 use Rattle.capfilter.specs.Numbers.{number, are_digits, numbers, with_first, parts}
 use Rattle.capfilter.specs.Addresses.{octet, group, of_octets, version_4, round_gap, groups, some_groups, of_groups, of_halves, of_texts, group_bytes, version_6, address}
@@ -153,7 +153,7 @@ test_fit fields.Port text t h = map_fit (λ n. tests.Port n) (number 10 5 65535 
     port_fit : (n : ℕ) → n ≤ 65535 → n < 65536
     port_fit n le = omega arith
 
-prim_fit : (ts : Tokens) (prim : Prim) → IsPrim ts prim → IsFitPrim prim
+prim_fit : (ts : Tokens) (prim : Primitive) → IsPrim ts prim → IsFitPrim prim
 prim_fit ts Tcp h = tt
 prim_fit ts Udp h = tt
 prim_fit ts Ip h = tt

@@ -9,7 +9,7 @@ use Rattle.streamkey.specs.KeyParts.{KeyParts}
 use Rattle.streamkey.specs.declared.toward.Toward.{Toward}
 use Rattle.capfilter.specs.declared.node.Node.{Node}
 use Rattle.capfilter.specs.declared.node.Node.TheVariants as nodes
-use Rattle.capfilter.specs.declared.prim.Prim.TheVariants.{Tcp}
+use Rattle.capfilter.specs.declared.prim.Primitive.TheVariants.{Tcp}
 use Rattle.capfilter.specs.Expr.{Expr, Test, Not, And, Or}
 use Rattle.capfilter.specs.Truth.{truth}
 use Rattle.capfilter.specs.Nodes.{tree_at, tree_of, grown, trees, IsBelow, AreBelow, node_says}

@@ -8,8 +8,8 @@ use Rattle.capfilter.specs.declared.node.Node.{Node}
 use Rattle.capfilter.specs.declared.node.Node.TheVariants as nodes
 use Rattle.capfilter.specs.declared.parser.Frame as code_frame
 use Rattle.capfilter.specs.declared.parser.Frame.TheVariants as frames
-use Rattle.capfilter.specs.declared.prim.Prim.{Prim}
-use Rattle.capfilter.specs.declared.prim.Prim.TheVariants.{Tcp}
+use Rattle.capfilter.specs.declared.prim.Primitive.{Primitive}
+use Rattle.capfilter.specs.declared.prim.Primitive.TheVariants.{Tcp}
 use Rattle.capfilter.specs.Expr.{Expr, Test}
 use Rattle.capfilter.specs.Nodes.{tree_at, tree_of, trees, root, IsBelow, AreBelow}
 use Rattle.capfilter.specs.Reader.{Frame, NotFrame, OpenFrame, AndFrame, OrFrame, levels, completed}
@@ -162,7 +162,7 @@ level_names_none n (frames.And left) e = absurd (omega arith)
 level_names_none n (frames.Or left) e = absurd (omega arith)
 
 -- the state behind an operand that is whole
-pub operand_state : (ns ms : List Node) (fs : List code_frame.Frame) (prim : Prim) → AreFramesOf (length ns) fs → ms ≡ ns ++ nodes.Test prim ∷ []
+pub operand_state : (ns ms : List Node) (fs : List code_frame.Frame) (prim : Primitive) → AreFramesOf (length ns) fs → ms ≡ ns ++ nodes.Test prim ∷ []
     → completed (frames_of ms fs) (root ms) ≡ completed (frames_of ns fs) (Test prim)
 operand_state ns ms fs prim within e =
     ap (λ (l : List Node). completed (frames_of l fs) (root l)) e

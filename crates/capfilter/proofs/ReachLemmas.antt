@@ -12,8 +12,8 @@ use Rattle.capfilter.specs.declared.end_test.Field.TheVariants as fields
 use Rattle.capfilter.specs.declared.end_test.EndTest.{EndTest}
 use Rattle.capfilter.specs.declared.prim.Side.{Side}
 use Rattle.capfilter.specs.declared.prim.Side.TheVariants as sides
-use Rattle.capfilter.specs.declared.prim.Prim.{Prim}
-use Rattle.capfilter.specs.declared.prim.Prim.TheVariants.{Tcp, Udp, Ip, Ip6, OfEnd}
+use Rattle.capfilter.specs.declared.prim.Primitive.{Primitive}
+use Rattle.capfilter.specs.declared.prim.Primitive.TheVariants.{Tcp, Udp, Ip, Ip6, OfEnd}
 use Rattle.capfilter.specs.Expr.{Expr, Test, Not, And, Or}
 use Rattle.capfilter.specs.Words.{word, spelling, all_words}
 use Rattle.capfilter.specs.Ends.{end_test}
@@ -98,7 +98,7 @@ prim_term (suc n) ts e h = inl h
 
 -- an operand or a join has come
 module _ (most : ℕ) (frames : List Frame) (front : Tokens) (opens : OpensAs most frames front) where
-  leads_prim : (ws : Tokens) (prim : Prim) → IsPrim ws prim → Leads most (front ++ ws) (completed frames (Test prim))
+  leads_prim : (ws : Tokens) (prim : Primitive) → IsPrim ws prim → Leads most (front ++ ws) (completed frames (Test prim))
   leads_prim ws prim h = leads_completed most frames (Test prim) front ws opens (prim_term (most - levels frames) ws (Test prim) h)
 
   leads_end : (side : Side) (field : Field) (ws : Tokens) → ws ≡ side_words side ++ spelling (field_word field) ∷ [] → Leads most (front ++ ws) (at_next frames (Text_of_end side field))

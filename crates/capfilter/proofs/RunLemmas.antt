@@ -8,8 +8,8 @@ use Rattle.capfilter.specs.declared.end_test.Field.TheVariants as fields
 use Rattle.capfilter.specs.declared.end_test.EndTest.{EndTest}
 use Rattle.capfilter.specs.declared.prim.Side.{Side}
 use Rattle.capfilter.specs.declared.prim.Side.TheVariants as sides
-use Rattle.capfilter.specs.declared.prim.Prim.{Prim}
-use Rattle.capfilter.specs.declared.prim.Prim.TheVariants.{Tcp, Udp, Ip, Ip6, OfEnd}
+use Rattle.capfilter.specs.declared.prim.Primitive.{Primitive}
+use Rattle.capfilter.specs.declared.prim.Primitive.TheVariants.{Tcp, Udp, Ip, Ip6, OfEnd}
 use Rattle.capfilter.specs.Expr.{Expr, Test, Not, And, Or}
 use Rattle.capfilter.specs.Words.{word, spelling}
 use Rattle.capfilter.specs.Ends.{end_test}
@@ -102,7 +102,7 @@ module _ (most : ℕ) (frames : List Frame) (within : levels frames ≤ most) wh
   over_end sides.Target fields.Net = (_, ap (option_and_then _) (word_spelled words.Target), within, (_, ap (option_and_then _) (word_spelled words.Net), within, refl))
   over_end sides.Target fields.Port = (_, ap (option_and_then _) (word_spelled words.Target), within, (_, ap (option_and_then _) (word_spelled words.Port), within, refl))
 
-  pub over_prim : (ts : Tokens) (prim : Prim) → IsPrim ts prim → Runs most (at_next frames Operand) ts (completed frames (Test prim))
+  pub over_prim : (ts : Tokens) (prim : Primitive) → IsPrim ts prim → Runs most (at_next frames Operand) ts (completed frames (Test prim))
   over_prim ts Tcp h = subst (λ (l : Tokens). Runs most (at_next frames Operand) l (completed frames (Test Tcp))) (sym h) (over_single words.Tcp (Test Tcp) (ap (option_and_then _) (word_spelled words.Tcp)))
   over_prim ts Udp h = subst (λ (l : Tokens). Runs most (at_next frames Operand) l (completed frames (Test Udp))) (sym h) (over_single words.Udp (Test Udp) (ap (option_and_then _) (word_spelled words.Udp)))
   over_prim ts Ip h = subst (λ (l : Tokens). Runs most (at_next frames Operand) l (completed frames (Test Ip))) (sym h) (over_single words.Ip (Test Ip) (ap (option_and_then _) (word_spelled words.Ip)))

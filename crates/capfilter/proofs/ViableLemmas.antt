@@ -9,7 +9,7 @@ use Rattle.capfilter.specs.declared.end_test.Field.TheVariants as fields
 use Rattle.capfilter.specs.declared.end_test.EndTest.{EndTest}
 use Rattle.capfilter.specs.declared.end_test.EndTest.TheVariants as tests
 use Rattle.capfilter.specs.declared.prim.Side.{Side}
-use Rattle.capfilter.specs.declared.prim.Prim.TheVariants.{Tcp, OfEnd}
+use Rattle.capfilter.specs.declared.prim.Primitive.TheVariants.{Tcp, OfEnd}
 use Rattle.capfilter.specs.Expr.{Expr, Test, Not, And, Or}
 use Rattle.capfilter.specs.Words.{spelling}
 use Rattle.capfilter.specs.Ends.{end_test}

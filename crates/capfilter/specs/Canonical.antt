@@ -7,8 +7,8 @@ use Rattle.capfilter.specs.declared.end_test.EndTest.{EndTest}
 use Rattle.capfilter.specs.declared.end_test.EndTest.TheVariants.{Host, Net, Port}
 use Rattle.capfilter.specs.declared.prim.Side.{Side}
 use Rattle.capfilter.specs.declared.prim.Side.TheVariants.{Either, Source, Target}
-use Rattle.capfilter.specs.declared.prim.Prim.{Prim}
-use Rattle.capfilter.specs.declared.prim.Prim.TheVariants.{Tcp, Udp, Ip, Ip6, OfEnd}
+use Rattle.capfilter.specs.declared.prim.Primitive.{Primitive}
+use Rattle.capfilter.specs.declared.prim.Primitive.TheVariants.{Tcp, Udp, Ip, Ip6, OfEnd}
 use Rattle.capfilter.specs.Expr.{Expr, Test, Not, And, Or}
 
 -- The one text that an expression is printed as: docs/FORMATS.md, "Filters".
@@ -48,7 +48,7 @@ side_text Either = []
 side_text Source = codes "src "
 side_text Target = codes "dst "
 
-abbrev pub prim_text : Prim → List ℕ
+abbrev pub prim_text : Primitive → List ℕ
 prim_text Tcp = codes "tcp"
 prim_text Udp = codes "udp"
 prim_text Ip = codes "ip"

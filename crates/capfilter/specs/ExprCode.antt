@@ -3,15 +3,15 @@ use Rattle.std.specs.Coded.{Coded, code_by, coded×, coded_ℕ, coded_list, code
 use Rattle.std.proofs.Common.{◌∙◌, ap, sym}
 use Rattle.std.proofs.lemmas.List.{append-nil}
 use mathlib.Core.List.{append_assoc}
-use Rattle.capfilter.specs.declared.prim.Prim.{Prim}
-use Rattle.capfilter.specs.declared.prim.Prim.TheVariants.{Tcp}
+use Rattle.capfilter.specs.declared.prim.Primitive.{Primitive}
+use Rattle.capfilter.specs.declared.prim.Primitive.TheVariants.{Tcp}
 use Rattle.capfilter.specs.Expr.{Expr, Test, Not, And, Or}
 
 -- An expression as a list, by which proofs tell expressions apart: operators stand behind what they join.
 
 -- a primitive, or an operator by its number: 0 is `not`, 1 is `and`, 2 is `or`
 abbrev pub Part : Type 0
-Part = Option Prim × ℕ
+Part = Option Primitive × ℕ
 
 abbrev pub listed : Expr → List Part
 listed (Test prim) = (Some prim, 0) ∷ []
@@ -26,7 +26,7 @@ joined_by (suc n) (e ∷ []) = e ∷ []
 joined_by (suc zero) (right ∷ left ∷ es) = And left right ∷ es
 joined_by (suc (suc n)) (right ∷ left ∷ es) = Or left right ∷ es
 
-abbrev pub taken : Option Prim → ℕ → List Expr → List Expr
+abbrev pub taken : Option Primitive → ℕ → List Expr → List Expr
 taken (Some prim) n es = Test prim ∷ es
 taken None n es = joined_by n es
 
@@ -57,5 +57,5 @@ listed_taken (Or left right) ps es =
 pub listed_back : (e : Expr) → first_of_all (all_taken (listed e) []) ≡ e
 listed_back e = ap (λ (l : List Part). first_of_all (all_taken l [])) (sym (append-nil (listed e))) ∙ ap first_of_all (listed_taken e [] [])
 
-abbrev pub expr_code : Coded Prim → Coded Expr
+abbrev pub expr_code : Coded Primitive → Coded Expr
 expr_code code = code_by (List Part) (coded_list (coded× (coded_option code) coded_ℕ)) listed (λ ps. first_of_all (all_taken ps [])) listed_back

@@ -4,8 +4,8 @@ use Rattle.streamkey.specs.Address.{HasItsBytes}
 use Rattle.streamkey.specs.declared.addr.Addr.TheVariants.{V4, V6}
 use Rattle.capfilter.specs.declared.end_test.EndTest.{EndTest}
 use Rattle.capfilter.specs.declared.end_test.EndTest.TheVariants.{Host, Net, Port}
-use Rattle.capfilter.specs.declared.prim.Prim.{Prim}
-use Rattle.capfilter.specs.declared.prim.Prim.TheVariants.{Tcp, Udp, Ip, Ip6, OfEnd}
+use Rattle.capfilter.specs.declared.prim.Primitive.{Primitive}
+use Rattle.capfilter.specs.declared.prim.Primitive.TheVariants.{Tcp, Udp, Ip, Ip6, OfEnd}
 use Rattle.capfilter.specs.Expr.{Expr, Test, Not, And, Or}
 use Rattle.capfilter.specs.Ends.{width}
 
@@ -27,7 +27,7 @@ IsFitTest (Host a) = IsFitAddress a
 IsFitTest (Net a n) = IsFitAddress a × (n ≤ width a)
 IsFitTest (Port port) = port < 65536
 
-abbrev pub IsFitPrim : Prim → Type 0
+abbrev pub IsFitPrim : Primitive → Type 0
 IsFitPrim Tcp = Unit {0}
 IsFitPrim Udp = Unit {0}
 IsFitPrim Ip = Unit {0}

@@ -5,8 +5,8 @@ use Rattle.capfilter.specs.declared.end_test.Field.{Field}
 use Rattle.capfilter.specs.declared.end_test.Field.TheVariants as fields
 use Rattle.capfilter.specs.declared.prim.Side.{Side}
 use Rattle.capfilter.specs.declared.prim.Side.TheVariants as sides
-use Rattle.capfilter.specs.declared.prim.Prim.{Prim}
-use Rattle.capfilter.specs.declared.prim.Prim.TheVariants.{Tcp, Udp, Ip, Ip6, OfEnd}
+use Rattle.capfilter.specs.declared.prim.Primitive.{Primitive}
+use Rattle.capfilter.specs.declared.prim.Primitive.TheVariants.{Tcp, Udp, Ip, Ip6, OfEnd}
 use Rattle.capfilter.specs.Expr.{Expr, Test, Not, And, Or}
 use Rattle.capfilter.specs.Words.{spelling}
 use Rattle.capfilter.specs.Ends.{end_test}
@@ -28,7 +28,7 @@ field_word fields.Net = words.Net
 field_word fields.Port = words.Port
 
 -- prim = "tcp" | "udp" | "ip" | "ip6" | [ "src" | "dst" ] ( "host" address | "net" address "/" bits | "port" number )
-abbrev pub IsPrim : Tokens → Prim → Type 0
+abbrev pub IsPrim : Tokens → Primitive → Type 0
 IsPrim ts Tcp = ts ≡ spelling words.Tcp ∷ []
 IsPrim ts Udp = ts ≡ spelling words.Udp ∷ []
 IsPrim ts Ip = ts ≡ spelling words.Ip ∷ []

@@ -4,7 +4,7 @@ use Rattle.streamkey.specs.declared.toward.Toward.{Toward}
 use Rattle.capfilter.specs.Truth.{prim_holds}
 use Rattle.capfilter.specs.Canonical.{canonical}
 use Rattle.capfilter.specs.Fit.{IsFit}
-use Rattle.capfilter.specs.declared.prim.Prim.TheVariants.{Tcp}
+use Rattle.capfilter.specs.declared.prim.Primitive.TheVariants.{Tcp}
 use Rattle.capfilter.specs.declared.node.Node.{Node}
 use Rattle.capfilter.specs.declared.node.Node.TheVariants as nodes
 use Rattle.capfilter.specs.Expr.{Expr, Test, Not, And, Or}

@@ -6,8 +6,7 @@ use Rattle.capfilter.specs.declared.end_test.Field.{Field}
 use Rattle.capfilter.specs.declared.end_test.Field.TheVariants as fields
 use Rattle.capfilter.specs.declared.prim.Side.{Side}
 use Rattle.capfilter.specs.declared.prim.Side.TheVariants as sides
-use Rattle.capfilter.specs.declared.prim.Prim.{Prim}
-use Rattle.capfilter.specs.declared.prim.Prim.TheVariants.{Tcp, Udp, Ip, Ip6, OfEnd}
+use Rattle.capfilter.specs.declared.prim.Primitive.TheVariants.{Tcp, Udp, Ip, Ip6, OfEnd}
 use Rattle.capfilter.specs.declared.filter_error.FilterKind.{FilterKind}
 use Rattle.capfilter.specs.declared.filter_error.FilterKind.TheVariants as kinds
 use Rattle.capfilter.specs.Expr.{Expr, Test, Not, And, Or}

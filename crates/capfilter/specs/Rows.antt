@@ -8,7 +8,7 @@ use Rattle.capfilter.specs.declared.end_test.EndTest.TheVariants.{Port}
 use Rattle.capfilter.specs.declared.filter_error.FilterKind.{FilterKind}
 use Rattle.capfilter.specs.declared.filter_error.FilterFault.{FilterFault}
 use Rattle.capfilter.specs.declared.prim.Side.TheVariants.{Either}
-use Rattle.capfilter.specs.declared.prim.Prim.TheVariants.{Tcp, Udp, OfEnd}
+use Rattle.capfilter.specs.declared.prim.Primitive.TheVariants.{Tcp, Udp, OfEnd}
 use Rattle.capfilter.specs.Expr.{Expr, Test, And, Or}
 
 -- Texts, trees and packets written out by hand.

@@ -12,8 +12,8 @@ use Rattle.capfilter.specs.declared.end_test.EndTest.{EndTest}
 use Rattle.capfilter.specs.declared.end_test.EndTest.TheVariants.{Host, Net, Port}
 use Rattle.capfilter.specs.declared.prim.Side.{Side}
 use Rattle.capfilter.specs.declared.prim.Side.TheVariants.{Either, Source, Target}
-use Rattle.capfilter.specs.declared.prim.Prim.{Prim}
-use Rattle.capfilter.specs.declared.prim.Prim.TheVariants.{Tcp, Udp, Ip, Ip6, OfEnd}
+use Rattle.capfilter.specs.declared.prim.Primitive.{Primitive}
+use Rattle.capfilter.specs.declared.prim.Primitive.TheVariants.{Tcp, Udp, Ip, Ip6, OfEnd}
 use Rattle.capfilter.specs.Expr.{Expr, Test, Not, And, Or}
 
 -- What an expression says of a packet: docs/RULES.md, "Filters".
@@ -58,7 +58,7 @@ abbrev pub is_tcp : Proto → Bool
 is_tcp protos.Tcp = true
 is_tcp protos.Udp = false
 
-abbrev pub prim_holds : Prim → KeyParts → Toward → Bool
+abbrev pub prim_holds : Primitive → KeyParts → Toward → Bool
 prim_holds Tcp key toward = is_tcp key.proto
 prim_holds Udp key toward = not (is_tcp key.proto)
 prim_holds Ip key toward = is_version_4 (source_of key toward).addr

@@ -30,7 +30,7 @@ impl Model for Filter {
     ghost use Rattle.capfilter.specs.Expr.{Expr};
     ghost use Rattle.capfilter.specs.Nodes.{root, IsFilter};
     ghost use Rattle.capfilter.specs.ExprCode.{expr_code};
-    ghost use Rattle.capfilter.specs.contracts.prim.Prim as prims;
+    ghost use Rattle.capfilter.specs.contracts.prim.Primitive as prims;
 
     ghost Value = { Expr };
 

@@ -3,13 +3,13 @@ ghost use Rattle.std.specs.Prelude.{◌≡◌, ◌≤◌, ◌<◌, ◌-◌, leng
 ghost use Rattle.capfilter.specs.Truth.{truth};
 ghost use Rattle.capfilter.specs.Nodes.{AreBelow, IsBelow, root, node_says};
 
-use crate::prim::Prim;
+use crate::prim::Primitive;
 use streamkey::{Key, Toward};
 
 /// A node of a tree; the numbers are places of nodes before it.
 #[derive(Clone, Copy, Debug)]
 pub(crate) enum Node {
-    Test(Prim),
+    Test(Primitive),
     Not(usize),
     And(usize, usize),
     Or(usize, usize),

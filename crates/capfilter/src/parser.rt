@@ -9,7 +9,7 @@ ghost use Rattle.capfilter.specs.Reader.{start, completed, closed, step, at_word
 use crate::Memory;
 use crate::end_test::{EndTest, Field, end_test_of};
 use crate::node::Node;
-use crate::prim::{Prim, Side};
+use crate::prim::{Primitive, Side};
 use crate::word::Word;
 use std::alloc::Global;
 
@@ -172,7 +172,7 @@ impl Parser {
         }
     }
 
-    fn put_operand(&mut self, prim: Prim) -> Result<(), Memory>
+    fn put_operand(&mut self, prim: Primitive) -> Result<(), Memory>
         requires is { IsParser self.old }
         requires room { HasRoom self.old }
         ensures state { OnOk result (state_of self.new ≡ completed (frames_of self.old.nodes.items self.old.frames.items) (Test prim)) }
@@ -244,19 +244,19 @@ impl Parser {
                 Ok(true)
             }
             Word::Tcp => {
-                self.put_operand(Prim::Tcp)?;
+                self.put_operand(Primitive::Tcp)?;
                 Ok(true)
             }
             Word::Udp => {
-                self.put_operand(Prim::Udp)?;
+                self.put_operand(Primitive::Udp)?;
                 Ok(true)
             }
             Word::Ip => {
-                self.put_operand(Prim::Ip)?;
+                self.put_operand(Primitive::Ip)?;
                 Ok(true)
             }
             Word::Ip6 => {
-                self.put_operand(Prim::Ip6)?;
+                self.put_operand(Primitive::Ip6)?;
                 Ok(true)
             }
             Word::Source => {
@@ -307,7 +307,7 @@ impl Parser {
         match end_test_of(field, token) {
             None => Ok(false),
             Some(test) => {
-                self.put_operand(Prim::OfEnd(side, test))?;
+                self.put_operand(Primitive::OfEnd(side, test))?;
                 Ok(true)
             }
         }

@@ -15,7 +15,7 @@ pub(crate) enum Side {
 
 /// What is asked of a packet: its protocol, the version of its addresses, or something of its ends.
 #[derive(Clone, Copy, Debug)]
-pub(crate) enum Prim {
+pub(crate) enum Primitive {
     Tcp,
     Udp,
     Ip,
@@ -100,17 +100,17 @@ fn ends_pass(side: Side, test: EndTest, source: End, target: End) -> bool
     }
 }
 
-impl Prim {
+impl Primitive {
     /// Whether it holds of a packet of that key and way.
     pub(crate) fn holds(self, key: &Key, toward: Toward) -> bool
         ensures { result ≡ prim_holds self key.now toward }
     {
         match self {
-            Prim::Tcp => is_of_tcp(key.proto),
-            Prim::Udp => !is_of_tcp(key.proto),
-            Prim::Ip => is_of_version_4(key.source(toward).addr),
-            Prim::Ip6 => !is_of_version_4(key.source(toward).addr),
-            Prim::OfEnd(side, test) => {
+            Primitive::Tcp => is_of_tcp(key.proto),
+            Primitive::Udp => !is_of_tcp(key.proto),
+            Primitive::Ip => is_of_version_4(key.source(toward).addr),
+            Primitive::Ip6 => !is_of_version_4(key.source(toward).addr),
+            Primitive::OfEnd(side, test) => {
                 ends_pass(side, test, key.source(toward), key.target(toward))
             }
         }

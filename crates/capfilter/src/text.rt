@@ -6,7 +6,7 @@ ghost use Rattle.capfilter.specs.Canonical.{dotted, hex_byte, group_at, colon_gr
 
 use crate::Memory;
 use crate::end_test::EndTest;
-use crate::prim::{Prim, Side};
+use crate::prim::{Primitive, Side};
 use itoa::Buffer;
 use streamkey::Addr;
 
@@ -133,14 +133,14 @@ fn put_of_end(out: &mut String, side: Side, test: EndTest) -> Result<(), Memory>
 }
 
 /// Appends the text of a primitive.
-pub(crate) fn put_prim(out: &mut String, prim: Prim) -> Result<(), Memory>
+pub(crate) fn put_prim(out: &mut String, prim: Primitive) -> Result<(), Memory>
     ensures { OnOk result (string_bytes out.new ≡ string_bytes out.old ++ prim_text prim) }
 {
     match prim {
-        Prim::Tcp => put_text(out, "tcp"),
-        Prim::Udp => put_text(out, "udp"),
-        Prim::Ip => put_text(out, "ip"),
-        Prim::Ip6 => put_text(out, "ip6"),
-        Prim::OfEnd(side, test) => put_of_end(out, side, test),
+        Primitive::Tcp => put_text(out, "tcp"),
+        Primitive::Udp => put_text(out, "udp"),
+        Primitive::Ip => put_text(out, "ip"),
+        Primitive::Ip6 => put_text(out, "ip6"),
+        Primitive::OfEnd(side, test) => put_of_end(out, side, test),
     }
 }

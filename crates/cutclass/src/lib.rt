@@ -1,0 +1,18 @@
+//! Cutoffs: after how many bytes a stream is no longer kept, by default, by direction, by class and for one stream.
+//! Classes are kept in the order in which they were added, at most 32; what is refused is handed back.
+//! Stands on capfilter (the filters of classes) and streamkey.
+#![tactic(auto)]
+
+mod class_error;
+mod class_rule;
+mod classes;
+mod cut;
+mod cutoffs;
+mod memory;
+
+pub use class_error::ClassError;
+pub use class_rule::ClassRule;
+pub use classes::{Classes, MOST_CLASSES};
+pub use cut::Cut;
+pub use cutoffs::Cutoffs;
+pub use memory::Memory;
