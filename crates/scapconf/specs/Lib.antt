@@ -1,0 +1,4 @@
+pub mod Front
+pub mod StatusText
+pub mod Defaults
+pub mod Causes

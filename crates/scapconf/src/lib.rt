@@ -1,0 +1,17 @@
+//! What a command is told and what it answers: the settings of a run, and the status with which a command ends.
+//! Each status has its number and its text, and the settings that nothing is said of have stated values.
+//! Stands on convo, cutclass, overpolicy and prio_budget (what is set for conversations), capfilter (the filter of packets),
+//! pcapfile (why a file is no capture) and itoa.
+#![tactic(auto)]
+
+mod memory;
+mod put;
+mod settings;
+mod settings_error;
+mod status;
+mod status_text;
+
+pub use memory::Memory;
+pub use settings::Settings;
+pub use settings_error::{SettingsError, SettingsKind};
+pub use status::Status;
