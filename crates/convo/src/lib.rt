@@ -5,6 +5,8 @@
 
 mod convo_set;
 mod memory;
+#[cfg(test)]
+mod tests;
 
 pub use convo_set::ConvoSet;
 pub use memory::Memory;

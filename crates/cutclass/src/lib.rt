@@ -9,6 +9,9 @@ mod classes;
 mod cut;
 mod cutoffs;
 mod memory;
+pub mod rows;
+#[cfg(test)]
+mod tests;
 
 pub use class_error::ClassError;
 pub use class_rule::ClassRule;

@@ -6,10 +6,13 @@
 
 mod memory;
 mod put;
+pub mod rows;
 mod settings;
 mod settings_error;
 mod status;
 mod status_text;
+#[cfg(test)]
+mod tests;
 
 pub use memory::Memory;
 pub use settings::Settings;

@@ -1,0 +1,67 @@
+use crate::*;
+use capfilter::Filter;
+use std::alloc::Global;
+use std::test::Fail;
+
+fn rule_of(alloc: Global, priority: u8, cut: Cut, filter: &str) -> Result<ClassRule, Fail> {
+    Ok(ClassRule {
+        priority,
+        cut,
+        filter: Filter::parse(alloc, filter)?,
+    })
+}
+
+/// A class in words.
+fn shown(alloc: Global, rule: &ClassRule) -> Result<String, Fail> {
+    let priority = rule.priority;
+    let cut = rule.cut;
+    let filter = rule.filter.to_string(alloc)?;
+    Ok(format!(in alloc; "{priority} {cut:?} {filter}")?)
+}
+
+#[test]
+fn the_33rd_class_is_refused_and_handed_back(rt: HostRuntime) -> Result<(), Fail> {
+    let mut classes = Classes::new(rt.alloc());
+    assert!(rt; classes.as_slice().is_empty());
+    for priority in 0..32 {
+        classes.add(rule_of(rt.alloc(), priority, Cut::Endless, "tcp")?)?;
+    }
+    let one_more = rule_of(rt.alloc(), 32, Cut::At(7), "port 53")?;
+    let Err(ClassError::Full(rule)) = classes.add(one_more) else {
+        panic!(rt; "the 33rd class is added")
+    };
+    assert_eq!(rt; shown(rt.alloc(), &rule)?.as_str(), "32 At(7) port 53");
+    assert_eq!(rt; classes.as_slice().len(), 32);
+    for (i, rule) in classes.as_slice().iter().enumerate() {
+        assert_eq!(rt; usize::from(rule.priority), i);
+    }
+    Ok(())
+}
+
+#[test]
+fn copies_are_equal(rt: HostRuntime) -> Result<(), Fail> {
+    let mut classes = Classes::new(rt.alloc());
+    classes.add(rule_of(rt.alloc(), 3, Cut::At(100), "udp and dst port 53")?)?;
+    classes.add(rule_of(rt.alloc(), 0, Cut::Unset, "not net 10.0.0.0/8")?)?;
+    let cutoffs = Cutoffs {
+        default: Cut::At(1),
+        fore: Cut::Endless,
+        back: Cut::At(u64::MAX),
+        classes,
+    };
+    let copy = cutoffs.copy()?;
+    assert_eq!(rt; copy.default, Cut::At(1));
+    assert_eq!(rt; copy.fore, Cut::Endless);
+    assert_eq!(rt; copy.back, Cut::At(u64::MAX));
+    let rules = copy.classes.as_slice();
+    assert_eq!(rt; rules.len(), 2);
+    assert_eq!(rt;
+        shown(rt.alloc(), &rules[0])?.as_str(),
+        "3 At(100) (udp and dst port 53)"
+    );
+    assert_eq!(rt;
+        shown(rt.alloc(), &rules[1])?.as_str(),
+        "0 Unset not net 10.0.0.0/8"
+    );
+    Ok(())
+}
