@@ -13,8 +13,9 @@ use Rattle.streamdefs.specs.Lists.{is_empty}
 use Rattle.streamdefs.specs.Both.{Both, both, of_way, with_way}
 use Rattle.streamdefs.specs.Packet.{Packet, is_tcp, has_rst}
 use Rattle.streamdefs.specs.Terms.{Terms}
-use Rattle.streamdefs.specs.Cutclass.{Cut, first_set}
-use Rattle.streamdefs.specs.Cutclass.Cut.{Unset}
+use Rattle.cutclass.specs.declared.cut.Cut.{Cut}
+use Rattle.cutclass.specs.declared.cut.Cut.TheVariants.{Unset}
+use Rattle.cutclass.specs.InForce.{first_set}
 use Rattle.streamdefs.specs.Reorder.{Charge}
 use Rattle.streamdefs.specs.View.{Ask}
 use Rattle.streamdefs.specs.Pending.{Piece}

@@ -9,7 +9,7 @@ use Rattle.streamdefs.specs.Pending.{Piece}
 use Rattle.streamdefs.specs.Direction.{Direction, Segment}
 use Rattle.streamdefs.specs.Terms.{Terms}
 use Rattle.streamdefs.specs.Both.{both}
-use Rattle.streamdefs.specs.Cutclass.Cut.{Unset}
+use Rattle.cutclass.specs.declared.cut.Cut.TheVariants.{Unset}
 
 -- the bytes of a datagram that were granted, and the stamp of their grant
 pub record Paid : Type 0 where

@@ -6,7 +6,7 @@ use Rattle.streamkey.specs.declared.key.Key.{Key}
 use Rattle.streamkey.specs.declared.toward.Toward.{Toward}
 use Rattle.streamdefs.specs.Both.{both}
 use Rattle.streamdefs.specs.Packet.{Packet, is_tcp, same_toward}
-use Rattle.streamdefs.specs.Cutclass.Cut.{Unset}
+use Rattle.cutclass.specs.declared.cut.Cut.TheVariants.{Unset}
 use Rattle.streamdefs.specs.Convo.{Convo, Event, is_live}
 use Rattle.streamdefs.specs.Convo.Event.{Chunk}
 use Rattle.datagrams.specs.Flow.{Flow, OpenChunk, StandsFor, dry, piece_for}

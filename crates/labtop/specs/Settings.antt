@@ -2,10 +2,10 @@
 use Rattle.std.specs.Prelude.{None}
 use Rattle.prio_budget.specs.MarkParts.{MarkParts}
 use Rattle.streamdefs.specs.Both.{both}
-use Rattle.streamdefs.specs.Cutclass.Cut.{Unset}
-use Rattle.streamdefs.specs.Overpolicy.Policy.{First}
+use Rattle.cutclass.specs.declared.cut.Cut.TheVariants.{Unset}
+use Rattle.overpolicy.specs.declared.mode.Mode.TheVariants.{Strict}
+use Rattle.overpolicy.specs.declared.policy.Policy.TheVariants.{First}
 use Rattle.streamdefs.specs.Terms.{Terms}
-use Rattle.streamdefs.specs.Terms.Mode.{Strict}
 use Rattle.datagrams.specs.Capture.{marks_of}
 use Rattle.labtop.specs.declared.capture.TheConstants.{IDLE}
 use Rattle.labtop.specs.declared.settings.TheConstants.{BASE, CHUNK, LIMIT}

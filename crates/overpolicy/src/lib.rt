@@ -1,10 +1,11 @@
 //! How a stream is put together: which bytes win where segments overlap, whether gaps are waited for, and the sizes and times of it.
-//! The types alone, so far.
+//! The types, and which byte wins as a definition over plain starts; no calls so far.
 //! Stands on nothing.
 #![tactic(auto)]
 
 mod mode;
 mod policy;
+pub mod rows;
 mod shape;
 
 pub use mode::Mode;

@@ -62,7 +62,7 @@ impl Settings {
 
     /// The settings of a run that is told nothing.
     pub fn defaults(alloc: Global) -> Result<Settings, Memory>
-        ensures { IfOk result (λ settings. settings ≡ default_settings) }
+        ensures { result ≡ Ok default_settings }
     {
         Ok(Settings {
             set: ConvoSet {

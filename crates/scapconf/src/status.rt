@@ -12,17 +12,21 @@ use std::alloc::{AllocError, AllocFailed};
 pub enum Status {
     Done,
     Memory,
+    /// The words are no command.
     Usage,
     /// The settings have a fault in that line.
     Settings { line: u32, kind: SettingsKind },
     ReadFault,
     WriteFault,
+    /// The file that should be a capture is none.
     NotPcap { kind: HeadFault },
     /// The record at that offset says that so many of its bytes were captured.
     BadRecord { at: u64, len: u32 },
     /// The last record is cut after so many bytes.
     CutShort { bytes: u64 },
+    /// The capture has more records or bytes than are taken.
     TooLong,
+    /// What is asked for is not built yet.
     Unbuilt,
 }
 

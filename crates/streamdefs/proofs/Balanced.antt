@@ -4,10 +4,10 @@ use Rattle.std.proofs.Common.{sym, ◌∙◌, ap, arith}
 use Rattle.std.specs.List.{find}
 use Rattle.histbook.specs.declared.look_entry.LookEntry.{LookEntry}
 use Rattle.streamdefs.specs.Terms.{Terms}
-use Rattle.streamdefs.specs.Overpolicy.{Policy}
+use Rattle.overpolicy.specs.declared.policy.Policy.{Policy}
 use Rattle.streamdefs.specs.Reorder.{Charge, Placed, put_run, settled, settled_with, is_at, stretches}
 use Rattle.streamdefs.specs.View.{granted, passed, never, always, least, is_fate, front_after, charge_of}
-use Rattle.streamdefs.specs.Overpolicy.{wins}
+use Rattle.overpolicy.specs.Winner.{wins}
 use Rattle.streamdefs.specs.Pending.{Copy, Pending, Piece, Block, piece_of, spare_of, blocks, behind_gaps, grown, begun, closed_by_gaps, pending_after, pending_behind, nothing_pending, last_bytes, is_pending, is_full, is_flush_due, run_charges, copy_charge}
 use Rattle.streamdefs.specs.Direction.{Kind, Direction, Segment, Deed, is_cut, last_pending, looks_left, blocks_of, pieces_by, spares_by, pending_by, gone_by, held_with, view_after, direction_after, runs_of, bytes_of, fate_in, impatience, is_hole_due}
 use Rattle.streamdefs.specs.Direction.Deed.{Arrives, Falls_due, Ends}

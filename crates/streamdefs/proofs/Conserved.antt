@@ -4,7 +4,7 @@ use Rattle.std.proofs.Common.{◌∙◌, ap, arith}
 use Rattle.std.proofs.Math.ListN.{length-drop, length-append}
 use Rattle.histbook.specs.declared.look_entry.LookEntry.{LookEntry}
 use Rattle.streamdefs.specs.Terms.{Terms}
-use Rattle.streamdefs.specs.Overpolicy.{Policy}
+use Rattle.overpolicy.specs.declared.policy.Policy.{Policy}
 use Rattle.streamdefs.specs.Reorder.{Placed, put_run, settled}
 use Rattle.streamdefs.specs.View.{granted, passed, never, always, least, is_fate}
 use Rattle.streamdefs.specs.View.Fate.{Kept}

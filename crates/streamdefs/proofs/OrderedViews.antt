@@ -4,10 +4,10 @@ use Rattle.std.proofs.Common.{sym, ◌∙◌, ap, subst, arith, rules, inl, appe
 use Rattle.std.specs.List.{find}
 use Rattle.histbook.specs.declared.look_entry.LookEntry.{LookEntry}
 use Rattle.streamdefs.specs.Terms.{Terms}
-use Rattle.streamdefs.specs.Overpolicy.{Policy}
+use Rattle.overpolicy.specs.declared.policy.Policy.{Policy}
 use Rattle.streamdefs.specs.Reorder.{Placed, stretches, beside, put_run, settled, settled_with, placed, placed_from, stands_in, is_at}
 use Rattle.streamdefs.specs.View.{View, runs, granted, charged, passed, front_after, after_passing, never, always, least}
-use Rattle.streamdefs.specs.Overpolicy.{wins}
+use Rattle.overpolicy.specs.Winner.{wins}
 use Rattle.streamdefs.specs.View.{is_fate}
 use Rattle.streamdefs.specs.View.Fate.{Kept}
 use Rattle.streamdefs.specs.Ranges.{cut_at}

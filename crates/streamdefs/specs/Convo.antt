@@ -13,8 +13,12 @@ use Rattle.streamdefs.specs.Lists.{is_empty, or_else}
 use Rattle.streamdefs.specs.Both.{Both, of_way, with_way, both}
 use Rattle.streamdefs.specs.Packet.{Packet, is_tcp, has_syn, has_fin, has_rst, same_toward}
 use Rattle.streamdefs.specs.Marks.{mark}
-use Rattle.streamdefs.specs.Cutclass.{Cut, Class, first_set}
-use Rattle.streamdefs.specs.Terms.{Terms, Mode}
+use Rattle.cutclass.specs.declared.cut.Cut.{Cut}
+use Rattle.cutclass.specs.declared.cut.Cut.TheVariants as cuts
+use Rattle.cutclass.specs.InForce.{Class, first_set}
+use Rattle.overpolicy.specs.declared.mode.Mode.{Mode}
+use Rattle.overpolicy.specs.declared.mode.Mode.TheVariants as modes
+use Rattle.streamdefs.specs.Terms.{Terms}
 use Rattle.streamdefs.specs.Reorder.{Charge}
 use Rattle.streamdefs.specs.View.{Ask}
 use Rattle.streamdefs.specs.Pending.{Piece}
@@ -79,7 +83,7 @@ abbrev pub new_convo : Packet → Convo
 new_convo first = record {
   first = first;
   directions = both untouched;
-  own = both Cut.Unset;
+  own = both cuts.Unset;
   advised = None;
   kept = both [];
   events = [];
@@ -102,7 +106,7 @@ class_of terms c = terms.class c.first.key c.first.toward
 
 -- the cutoff of a class
 abbrev pub class_cutoff : Option Class → Cut
-class_cutoff None = Cut.Unset
+class_cutoff None = cuts.Unset
 class_cutoff (Some class) = class.cutoff
 
 -- the cutoff in force: the first set one of the stream's own, the class's, the direction's, the default
@@ -127,8 +131,8 @@ abbrev pub kind_of : Terms → Convo → Kind
 kind_of terms c = cond (is_tcp c.first) (kind terms.mode) Datagrams
   where
     kind : Mode → Kind
-    kind Mode.Strict = Strict
-    kind Mode.Fast = Fast
+    kind modes.Strict = Strict
+    kind modes.Fast = Fast
 
 -- a packet as its direction sees it
 abbrev pub segment_of : Terms → Convo → Packet → ℕ → Segment
@@ -269,11 +273,11 @@ left_kept terms c (step ∷ rest) kept = left_kept terms c rest (cond (is_empty 
 
 -- the cutoffs that advice sets: of both directions for New, and of the delivery's for a delivery; discard overrides
 abbrev pub own_after : Convo → Advice → Option Event → Both Cut
-own_after c advice event = cond advice.discard (both (Cut.At 0)) (set advice.cutoff event)
+own_after c advice event = cond advice.discard (both (cuts.At 0)) (set advice.cutoff event)
   where
     set : Option ℕ → Option Event → Both Cut
-    set (Some position) (Some New) = both (Cut.At position)
-    set (Some position) (Some (Chunk d)) = with_way d.way (Cut.At position) c.own
+    set (Some position) (Some New) = both (cuts.At position)
+    set (Some position) (Some (Chunk d)) = with_way d.way (cuts.At position) c.own
     set _ _ = c.own
 
 -- what is kept after an answer: a delivery goes behind those that rode with it to the end of its direction's

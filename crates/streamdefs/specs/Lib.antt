@@ -2,8 +2,6 @@ pub mod Lists
 pub mod Both
 pub mod Packet
 pub mod Marks
-pub mod Overpolicy
-pub mod Cutclass
 pub mod Terms
 pub mod Seqspace
 pub mod Reorder

@@ -1,7 +1,8 @@
 -- Bytes at positions: what a segment gives, and what is held until the front comes.
 use Rattle.std.specs.Prelude.{ℕ, suc, Bool, cond, ◌==◌, nat_lt, List, [], ◌∷◌, ◌++◌, drop, map, Option, Some, None, ℤ, pos, negsuc}
 use Rattle.std.specs.List.{list_any, find}
-use Rattle.streamdefs.specs.Overpolicy.{Policy, wins}
+use Rattle.overpolicy.specs.declared.policy.Policy.{Policy}
+use Rattle.overpolicy.specs.Winner.{wins}
 
 -- bytes reserved by one granted look, and the stamp that the look found
 pub record Charge : Type 0 where

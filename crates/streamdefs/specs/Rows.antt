@@ -13,9 +13,10 @@ use Rattle.streamkey.specs.declared.proto.Proto.TheVariants.{Tcp, Udp}
 use Rattle.streamkey.specs.declared.toward.Toward.TheVariants.{Up, Down}
 use Rattle.streamdefs.specs.Both.{both}
 use Rattle.streamdefs.specs.Packet.{Packet}
-use Rattle.streamdefs.specs.Cutclass.{Cut}
-use Rattle.streamdefs.specs.Overpolicy.{Policy}
-use Rattle.streamdefs.specs.Terms.{Terms, Mode}
+use Rattle.cutclass.specs.declared.cut.Cut.TheVariants as cuts
+use Rattle.overpolicy.specs.declared.mode.Mode.TheVariants as modes
+use Rattle.overpolicy.specs.declared.policy.Policy.TheVariants as policies
+use Rattle.streamdefs.specs.Terms.{Terms}
 use Rattle.streamdefs.specs.Direction.{Counts}
 use Rattle.streamdefs.specs.Convo.{Act, new_convo, along, asks, released, counts_in, Seen, seen_of, events_in}
 use Rattle.streamdefs.specs.Convo.Seen.{Created, Data, Over}
@@ -25,16 +26,16 @@ use Rattle.streamdefs.specs.Lawful.{Handler, Run}
 -- the settings of an empty settings text
 abbrev pub defaults : Terms
 defaults = record {
-  mode = Mode.Strict;
-  policy = Policy.First;
+  mode = modes.Strict;
+  policy = policies.First;
   chunk = 16384;
   overlap = 0;
   flush = 0;
   hole = 1000000000;
   reorder = 262144;
   idle = 300000000000;
-  default = Cut.Unset;
-  cutoffs = both Cut.Unset;
+  default = cuts.Unset;
+  cutoffs = both cuts.Unset;
   class = λ key toward. None;
   marks = record { limit = 67108864; base = 33554432; priorities = 1 };
 }

@@ -3,9 +3,10 @@ use Rattle.std.specs.Prelude.{List, [], ◌∷◌, replicate}
 use Rattle.evring.specs.Advice.{no_advice}
 use Rattle.evring.specs.declared.reason.Reason.TheVariants.{Finish}
 use Rattle.streamdefs.specs.Packet.{Packet}
-use Rattle.streamdefs.specs.Cutclass.{Cut}
-use Rattle.streamdefs.specs.Overpolicy.{Policy}
-use Rattle.streamdefs.specs.Terms.{Terms, Mode}
+use Rattle.cutclass.specs.declared.cut.Cut.TheVariants as cuts
+use Rattle.overpolicy.specs.declared.policy.Policy.{Policy}
+use Rattle.overpolicy.specs.declared.mode.Mode.TheVariants as modes
+use Rattle.streamdefs.specs.Terms.{Terms}
 use Rattle.streamdefs.specs.Convo.{Act}
 use Rattle.streamdefs.specs.Convo.Act.{Seg, Answer, Time, End}
 use Rattle.streamdefs.specs.Rows.{defaults, got, past, free, datagram, segment}
@@ -40,7 +41,7 @@ equal_history =
 
 -- fast: 0 to 49, then 100 to 199, then 50 to 99
 abbrev pub fast : Terms
-fast = record defaults { mode = Mode.Fast }
+fast = record defaults { mode = modes.Fast }
 
 abbrev pub fast_history : List Act
 fast_history =
@@ -53,14 +54,14 @@ alive_history = Seg syn 0 [] [] ∷ Seg (segment 2 0 0 100 (replicate 10 65)) 0 
 
 -- a cutoff at 10: the front at 8, six bytes at 8
 abbrev pub cut_at_ten : Terms
-cut_at_ten = record defaults { default = Cut.At 10 }
+cut_at_ten = record defaults { default = cuts.At 10 }
 
 abbrev pub cut_history : List Act
 cut_history = Seg syn 0 [] [] ∷ Seg (segment 2 0 0 100 (replicate 8 65)) 0 (got 8 0 0 ∷ []) [] ∷ Seg (segment 3 0 0 108 (replicate 6 66)) 0 (got 2 1 8 ∷ []) [] ∷ []
 
 -- a cutoff at 0
 abbrev pub cut_at_once : Terms
-cut_at_once = record defaults { default = Cut.At 0 }
+cut_at_once = record defaults { default = cuts.At 0 }
 
 abbrev pub cut_whole : Packet
 cut_whole = datagram 1 0 (97 ∷ 98 ∷ [])

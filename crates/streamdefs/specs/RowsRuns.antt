@@ -8,8 +8,9 @@ use Rattle.histbook.specs.declared.entry.Entry.{Entry}
 use Rattle.histbook.specs.declared.entry.Entry.TheVariants as E
 use Rattle.histbook.specs.declared.journal.Journal.{Journal}
 use Rattle.streamdefs.specs.Packet.{Packet}
-use Rattle.streamdefs.specs.Cutclass.{Cut}
-use Rattle.streamdefs.specs.Terms.{Terms, Mode}
+use Rattle.cutclass.specs.declared.cut.Cut.TheVariants as cuts
+use Rattle.overpolicy.specs.declared.mode.Mode.TheVariants as modes
+use Rattle.streamdefs.specs.Terms.{Terms}
 use Rattle.streamdefs.specs.Convo.{Act}
 use Rattle.streamdefs.specs.Convo.Act.{Seg, Answer, Time, End}
 use Rattle.streamdefs.specs.Convo.Seen.{Created, Data, Over}
@@ -152,7 +153,7 @@ replaced_lines =
     ∷ line 1 (Answer 2 no_advice []) ∷ line 2 (Answer 3 no_advice []) ∷ line 2 (End 0 Finish [] []) ∷ line 2 (Answer 4 no_advice []) ∷ []
 
 abbrev pub replaced_run : Run
-replaced_run = run_on_one (record defaults { mode = Mode.Fast }) 0 silent (first_syn ∷ second_syn ∷ []) replaced_lines (0 ∷ 0 ∷ 0 ∷ 0 ∷ [])
+replaced_run = run_on_one (record defaults { mode = modes.Fast }) 0 silent (first_syn ∷ second_syn ∷ []) replaced_lines (0 ∷ 0 ∷ 0 ∷ 0 ∷ [])
 
 -- Reset: a SYN, ten bytes, RST from the other end, five bytes that are late, and a SYN of another conversation.
 
@@ -209,7 +210,7 @@ idle_run = run_on_one defaults 300000000000 silent (idle_first ∷ idle_second �
 
 abbrev pub by_port : Terms
 by_port = record defaults {
-  class = λ key toward. cond (key.high.port == 53) (Some (record { priority = 2; cutoff = Cut.Unset })) None;
+  class = λ key toward. cond (key.high.port == 53) (Some (record { priority = 2; cutoff = cuts.Unset })) None;
   marks = record { limit = 100; base = 40; priorities = 3 };
 }
 

@@ -5,7 +5,8 @@ use Rattle.evring.specs.declared.reason.Reason.TheVariants.{Reset}
 use Rattle.prio_budget.specs.declared.free.Free.{Free}
 use Rattle.histbook.specs.declared.look_entry.LookEntry.{LookEntry}
 use Rattle.streamdefs.specs.Packet.{Packet}
-use Rattle.streamdefs.specs.Terms.{Terms, Mode}
+use Rattle.overpolicy.specs.declared.mode.Mode.TheVariants as modes
+use Rattle.streamdefs.specs.Terms.{Terms}
 use Rattle.streamdefs.specs.Convo.{Convo, new_convo, convo_after}
 use Rattle.streamdefs.specs.Convo.Act.{Seg, Answer, Time, End}
 use Rattle.streamdefs.specs.Convo.Event.{New}
@@ -18,7 +19,7 @@ use Rattle.streamdefs.specs.RowsMovement.{syn}
 -- A copy waits, and a gap and a full chunk come in one segment: fast, chunks of 4 bytes, copies of 2, abcd at 0, efgh at 10.
 
 abbrev pub copying_fast : Terms
-copying_fast = record (limited 100) { mode = Mode.Fast; chunk = 4; overlap = 2 }
+copying_fast = record (limited 100) { mode = modes.Fast; chunk = 4; overlap = 2 }
 
 abbrev pub abcd_first : Packet
 abcd_first = segment 1 0 0 100 (97 ∷ 98 ∷ 99 ∷ 100 ∷ [])

@@ -1,16 +1,13 @@
 -- The settings of streams.
 use Rattle.std.specs.Prelude.{ℕ, Option}
+use Rattle.overpolicy.specs.declared.mode.Mode.{Mode}
+use Rattle.overpolicy.specs.declared.policy.Policy.{Policy}
+use Rattle.cutclass.specs.declared.cut.Cut.{Cut}
+use Rattle.cutclass.specs.InForce.{Class}
 use Rattle.streamkey.specs.declared.key.Key.{Key}
 use Rattle.streamkey.specs.declared.toward.Toward.{Toward}
 use Rattle.streamdefs.specs.Both.{Both}
 use Rattle.streamdefs.specs.Marks.{Marks}
-use Rattle.streamdefs.specs.Overpolicy.{Policy}
-use Rattle.streamdefs.specs.Cutclass.{Cut, Class}
-
--- whether TCP bytes wait behind a hole, or are shown as they come
-pub data Mode : Type 0 where
-  Strict : Mode
-  Fast : Mode
 
 -- The settings of streams. Lengths are bytes and times are nanoseconds; the class of a conversation is that of its key and
 -- of the way of its first packet.

@@ -3,7 +3,7 @@ ghost use Rattle.std.specs.Prelude.{◌≡◌, [], ◌∷◌, ◌++◌, Some, ma
 ghost use Rattle.evring.specs.declared.reason.Reason.TheVariants.{Finish};
 ghost use Rattle.evring.specs.declared.way.Way.TheVariants.{Fore};
 ghost use Rattle.streamkey.specs.declared.toward.Toward.TheVariants.{Up};
-ghost use Rattle.streamdefs.specs.Overpolicy.Policy.{First, Last, Bsd, Linux};
+ghost use Rattle.overpolicy.specs.declared.policy.Policy.TheVariants.{First, Last, Bsd, Linux};
 ghost use Rattle.streamdefs.specs.Marks.{mark};
 ghost use Rattle.streamdefs.specs.View.{gaps};
 ghost use Rattle.streamdefs.specs.Convo.{new_convo, convo_after, counts_in};

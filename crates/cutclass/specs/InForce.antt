@@ -1,13 +1,9 @@
 -- Cutoffs, and classes of conversations.
 use Rattle.std.specs.Prelude.{ℕ, List, [], ◌∷◌, Option, Some, None}
+use Rattle.cutclass.specs.declared.cut.Cut.{Cut}
+use Rattle.cutclass.specs.declared.cut.Cut.TheVariants.{Unset, Endless, At}
 
--- a cutoff: not set, set to none, or set to a position
-pub data Cut : Type 0 where
-  Unset : Cut
-  Endless : Cut
-  At : ℕ → Cut
-
--- what a class line gives a conversation
+-- what a class gives a conversation
 pub record Class : Type 0 where
   pub priority : ℕ
   pub cutoff : Cut
