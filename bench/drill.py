@@ -34,10 +34,11 @@ PAYLOAD = 100
 SEED = 1
 RUNS = 3
 PIECE = 65_536
-# Datagrams, keys and longest payload of captures that are only checked. Their payloads have any length from 0.
+# Datagrams, keys and longest payload of captures that are only checked. Their payloads have any length from 0, and some records
+# are skipped.
 CHECKED = (
     (0, 1, 0), (1, 1, 0), (1, 1, 100), (2, 1, 3), (2, 2, 3),
-    (1_000, 1, 1), (1_000, 64, 100), (1_000, 1_000, 100),
+    (1_000, 1, 1), (1_000, 64, 100), (1_000, 1_000, 100), (10_000, 64, 300),
 )
 COLUMNS = (
     "datagrams", "keys", "capture B", "output B", "seconds", "us/datagram",
@@ -160,7 +161,7 @@ def print_table(drill, files):
 
 
 def check(drill, files, datagrams, keys, longest):
-    """Answers whether the files of a capture with payloads of mixed lengths are the model's."""
+    """Answers whether the files of a capture with payloads of mixed lengths and skipped records are the model's."""
     make_udp.write_capture(files.capture, datagrams, keys, longest, SEED, mixed=True)
     run_checked(drill.on(files))
     equal = is_as_modelled(drill, files)
@@ -172,7 +173,7 @@ def check(drill, files, datagrams, keys, longest):
 def print_checks(drill, files):
     """Answers whether all files are the model's."""
     equal = [check(drill, files, *shape) for shape in CHECKED]
-    print(f"budget of {drill.limit} bytes, payloads of mixed lengths: {sum(equal)} of {len(equal)} captures equal")
+    print(f"budget of {drill.limit} bytes, payloads of mixed lengths and skipped records: {sum(equal)} of {len(equal)} captures equal")
     return all(equal)
 
 

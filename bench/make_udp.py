@@ -2,7 +2,8 @@
 """Makes a capture of UDP datagrams: a little-endian microsecond pcap 2.4 file of IPv4 over Ethernet.
 
 Every key has two ends of its own and about as many datagrams as every other. The order of the keys, the direction
-of each datagram and its payload come from the seed, so the same arguments make the same file.
+of each datagram and its payload come from the seed, so the same arguments make the same file. A mixed capture also has records
+that are skipped.
 """
 
 import argparse
@@ -43,9 +44,29 @@ def frame(source, target, payload):
     return ETHERNET + ipv4(source[0], target[0], size) + udp + payload
 
 
-def record(number, data):
-    """The record of that number, counted from 0. Records are a millisecond apart."""
-    seconds, milliseconds = divmod(number, 1000)
+def skipped_frame(rng, data):
+    """A frame that is skipped, made of one that isn't: another protocol, a third tag, a fragment, or a cut frame; and sometimes
+    one behind two tags, which isn't skipped."""
+    tag = bytes.fromhex("81000005")
+    form = int(rng.random() * 7)
+    if form == 0:
+        return data[:12] + bytes.fromhex("0806") + data[14:]
+    if form == 1:
+        return data[:12] + tag * 3 + data[12:]
+    if form == 2:
+        return data[:20] + bytes.fromhex("2000") + data[22:]
+    if form == 3:
+        return data[:23] + bytes([1]) + data[24:]
+    if form == 4:
+        return data[: int(rng.random() * 42)]
+    if form == 5:
+        return data[:38] + bytes.fromhex("0007") + data[40:]
+    return data[:12] + bytes.fromhex("88a80006") + tag + data[12:]
+
+
+def record(number, data, later=0):
+    """The record of that number, counted from 0, so many milliseconds later. Records are a millisecond apart."""
+    seconds, milliseconds = divmod(number + later, 1000)
     moment = (FIRST_SECOND + seconds, milliseconds * 1000)
     return struct.pack("<IIII", *moment, len(data), len(data)) + data
 
@@ -76,6 +97,8 @@ def records(datagrams, keys, longest, seed, mixed=False):
         source, target = ends_of(key)
         if rng.random() < 0.5:
             source, target = target, source
+        if mixed and rng.random() < 0.25:
+            yield record(number, skipped_frame(rng, frame(source, target, payload())), int(rng.random() * 50))
         yield record(number, frame(source, target, payload()))
 
 
@@ -93,7 +116,7 @@ def parse_words():
     parser.add_argument("payload", type=int, help="bytes of each payload")
     parser.add_argument("seed", type=int)
     parser.add_argument("output")
-    parser.add_argument("--mixed", action="store_true", help="payloads of any length from 0 to PAYLOAD")
+    parser.add_argument("--mixed", action="store_true", help="payloads of any length from 0 to PAYLOAD, among them skipped records")
     words = parser.parse_args()
     if words.datagrams < 0 or not 0 < words.keys <= max(words.datagrams, 1):
         parser.error("the keys are at least 1 and at most the datagrams")

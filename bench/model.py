@@ -1,7 +1,8 @@
 #!/usr/bin/env python3
-"""The two files of a capture as docs/RULES.md and docs/FORMATS.md say, for captures that make_udp.py makes.
+"""The two files of a capture as docs/RULES.md and docs/FORMATS.md say, for little-endian microsecond captures of Ethernet.
 
-It shares no code with the program and none with make_udp.py. A capture that isn't of that form is a ValueError.
+It shares no code with the program and none with make_udp.py. Another capture, one that isn't whole, and one with a segment of
+TCP are a ValueError; the idle time is not looked at.
 """
 
 import argparse
@@ -31,18 +32,70 @@ def frames(capture):
         at += 16 + size
 
 
-def end_text(address, port):
-    return "%d.%d.%d.%d %d" % (*address, port)
+class Skipped(Exception):
+    """A record without a packet; its argument is the kind in the report's line of records."""
+
+
+def expect(holds, kind):
+    if not holds:
+        raise Skipped(kind)
+
+
+def number(data, at, size=2):
+    return int.from_bytes(data[at : at + size], "big")
+
+
+def behind_ethernet(frame):
+    """The EtherType behind at most two tags, and what it leads to."""
+    expect(len(frame) >= 14, "short")
+    ether_type, rest = number(frame, 12), frame[14:]
+    for _ in range(2):
+        if ether_type in (0x8100, 0x88A8):
+            expect(len(rest) >= 4, "short")
+            ether_type, rest = number(rest, 2), rest[4:]
+    return ether_type, rest
+
+
+def behind_ipv4(packet):
+    """The protocol, both addresses, the length that is declared for the body, and the body."""
+    expect(len(packet) >= 20 and packet[0] >> 4 == 4, "short")
+    size, total = (packet[0] & 15) * 4, number(packet, 2)
+    expect(20 <= size <= len(packet) and (total == 0 or total >= size), "short")
+    expect(number(packet, 6) & 0x3FFF == 0, "fragment")
+    expect(packet[9] in (6, 17), "other")
+    declared = total - size if total else len(packet) - size
+    ends = [".".join(str(byte) for byte in packet[at : at + 4]) for at in (12, 16)]
+    return packet[9], ends, declared, packet[size : size + declared]
+
+
+def behind_ipv6(packet):
+    expect(len(packet) >= 40 and packet[0] >> 4 == 6, "short")
+    declared = number(packet, 4) or len(packet) - 40
+    ends = [":".join(packet[at : at + 16].hex()[k : k + 4] for k in range(0, 32, 4)) for at in (8, 24)]
+    following, rest = packet[6], packet[40 : 40 + declared]
+    while following in (0, 43, 60):
+        expect(len(rest) >= 2 and len(rest) >= (rest[1] + 1) * 8, "short")
+        size = (rest[1] + 1) * 8
+        following, declared, rest = rest[0], declared - size, rest[size:]
+    if following == 44:
+        raise Skipped("fragment" if len(rest) >= 8 else "short")
+    expect(following in (6, 17), "other")
+    return following, ends, declared, rest
 
 
 def datagram(frame):
-    """The source, the target and the payload of a frame."""
-    require(frame[12:14] == b"\x08\x00" and frame[14] == 0x45, "not IPv4 without options")
-    total, fragment = struct.unpack_from(">HxxH", frame, 16)
-    require(fragment & 0x3FFF == 0 and frame[23] == 17, "not a whole UDP datagram")
-    source_port, target_port, size = struct.unpack_from(">HHH", frame, 34)
-    require(len(frame) == 14 + total and total == 20 + size, "lengths that differ")
-    return end_text(frame[26:30], source_port), end_text(frame[30:34], target_port), frame[42:]
+    """The source, the target and the payload of an Ethernet frame. A segment of TCP is a ValueError."""
+    ether_type, packet = behind_ethernet(frame)
+    expect(ether_type in (0x0800, 0x86DD), "other")
+    protocol, ends, declared, body = behind_ipv4(packet) if ether_type == 0x0800 else behind_ipv6(packet)
+    if protocol == 6:
+        expect(len(body) >= 20 and 20 <= (body[12] >> 4) * 4 <= len(body), "short")
+        raise ValueError("a segment of TCP")
+    expect(len(body) >= 8 and not 1 <= number(body, 4) <= 7, "short")
+    said = number(body, 4)
+    size = declared if said == 0 or said > declared else said
+    source, target = (f"{end} {number(body, at)}" for end, at in zip(ends, (0, 2)))
+    return source, target, body[8:size]
 
 
 class Half:
@@ -108,6 +161,7 @@ class Replay:
         self.waiting, self.answered = [], 0
         self.stamp, self.used, self.peak, self.refused = 0, 0, 0, 0
         self.records, self.clock = 0, 0
+        self.skipped = {"other": 0, "fragment": 0, "short": 0}
 
     def tell(self, number, line, charges=()):
         self.waiting.append((number, line, charges))
@@ -149,9 +203,16 @@ class Replay:
             self.tell(self.records, f"new {self.records} udp {source} {target}\n")
         return self.conversations[key]
 
-    def take(self, moment, source, target, payload):
-        self.answer(0)
+    def take(self, moment, frame):
+        """Takes a record: every one has a number, and its moment counts for the clock."""
         self.records, self.clock = self.records + 1, max(self.clock, moment)
+        try:
+            self.take_datagram(*datagram(frame))
+        except Skipped as skipped:
+            self.skipped[skipped.args[0]] += 1
+
+    def take_datagram(self, source, target, payload):
+        self.answer(0)
         conversation = self.conversation_of(source, target)
         way = conversation.way_from(source)
         half = conversation.halves[way]
@@ -179,7 +240,7 @@ class Replay:
 def replay_of(capture, limit):
     replay = Replay(limit)
     for moment, frame in frames(capture):
-        replay.take(moment, *datagram(frame))
+        replay.take(moment, frame)
     replay.end()
     return replay
 
@@ -196,7 +257,9 @@ def report_lines(replay):
             yield f"dir {conversation.number} {way} {half.numbers()}\n"
             halves.append(half)
     payload, delivered, shed = (sum(getattr(half, name) for half in halves) for name in ("sent", "delivered", "shed"))
-    yield f"records {replay.records} accepted {replay.records} filtered 0 other 0 fragment 0 short 0\n"
+    accepted = replay.records - sum(replay.skipped.values())
+    kinds = "".join(f" {kind} {count}" for kind, count in replay.skipped.items())
+    yield f"records {replay.records} accepted {accepted} filtered 0{kinds}\n"
     yield f"bytes payload {payload} delivered {delivered} duplicate 0 late 0 cut 0 shed {shed}\n"
     yield f"budget stamps {replay.stamp} peak {replay.peak} refused {replay.refused}\n"
     yield "status 0\n"

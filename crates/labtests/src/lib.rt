@@ -14,4 +14,6 @@ mod faults;
 #[cfg(test)]
 mod refusals;
 #[cfg(test)]
+mod skipped;
+#[cfg(test)]
 mod statuses;

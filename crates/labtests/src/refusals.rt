@@ -1,7 +1,28 @@
 use crate::captures::{ONE, WORDS, changed, expect_files, opened, put_record, shelf_with};
 use labtop::{Status, lab_top};
-use pcapfile::HeadFault;
+use pcapfile::{HeadFault, put_frame};
+use std::alloc::Global;
 use std::test::Fail;
+
+#[test]
+fn skipped_records_count_for_the_idle_time(rt: HostRuntime) -> Result<(), Fail> {
+    let alloc = rt.alloc();
+    // The second record, or the first one, has one byte: 300 seconds apart, and a second less.
+    for (second, status) in [(301, Status::Unbuilt), (300, Status::Done)] {
+        let mut behind = opened(alloc)?;
+        put_record(&mut behind, alloc, 1, (2, 50), (3, 53), b"ab")?;
+        put_frame(&mut behind, second, 0, b"x")?;
+        let mut before = opened(alloc)?;
+        put_frame(&mut before, 1, 0, b"x")?;
+        put_record(&mut before, alloc, second, (2, 50), (3, 53), b"ab")?;
+        for capture in [behind, before] {
+            let mut shelf = shelf_with(alloc, &capture)?;
+            let done = lab_top(alloc, &WORDS, &mut shelf);
+            assert_eq!(rt; done.status, status, "at {second}");
+        }
+    }
+    Ok(())
+}
 
 #[test]
 fn a_conversation_that_could_end_before_the_capture_is_not_built(
@@ -26,60 +47,39 @@ fn a_conversation_that_could_end_before_the_capture_is_not_built(
     Ok(())
 }
 
-#[test]
-fn one_record_that_is_not_built_is_enough(rt: HostRuntime) -> Result<(), Fail> {
-    let alloc = rt.alloc();
-    let tcp = changed(alloc, &[(63, 6)])?;
-    let mut capture = Vec::from_slice(alloc, &tcp)?;
-    capture.extend_from_slice(&ONE[24..])?;
-    let mut shelf = shelf_with(alloc, &capture)?;
-    let done = lab_top(alloc, &WORDS, &mut shelf);
-    assert_eq!(rt; done.status, Status::Unbuilt);
-    expect_files(&rt, &shelf, None, None);
+/// Appends the record of a SYN.
+fn put_segment(capture: &mut Vec<u8>, alloc: Global) -> Result<(), Fail> {
+    let mut frame = Vec::from_slice(alloc, &ONE[40..54])?;
+    frame.extend_from_slice(&[0x45, 0, 0, 40, 0, 0, 0, 0, 0x40, 6, 0, 0, 10, 0, 0, 1])?;
+    frame.extend_from_slice(&[10, 0, 0, 2, 0x13, 0x88, 0, 80, 0, 0, 3, 0xe8, 0, 0, 0, 0])?;
+    frame.extend_from_slice(&[0x50, 2, 0xff, 0xff, 0, 0, 0, 0])?;
+    put_frame(capture, 1, 0, &frame)?;
     Ok(())
 }
 
 #[test]
-fn what_is_not_built_creates_no_file(rt: HostRuntime) -> Result<(), Fail> {
+fn one_segment_is_enough_to_be_not_built(rt: HostRuntime) -> Result<(), Fail> {
     let alloc = rt.alloc();
-    let cases: [&[(usize, u8)]; 16] = [
-        // said to be IPv6, a tag or a service tag with another EtherType behind it, and another EtherType
-        &[(52, 0x86), (53, 0xdd)],
-        &[(52, 0x81)],
-        &[(52, 0x88), (53, 0xa8)],
-        &[(53, 0x06)],
-        // TCP, and another protocol
-        &[(63, 6)],
-        &[(63, 1)],
-        // more fragments, a fragment's offset
-        &[(60, 0x20)],
-        &[(61, 0x01)],
-        // another version, a header of 16 bytes, one longer than the packet, a total length below the header's
-        &[(54, 0x65)],
-        &[(54, 0x44)],
-        &[(54, 0x4f)],
-        &[(57, 0x13)],
-        // a UDP length below its header's
-        &[(79, 7)],
-        // a captured length of 43, 45 and 262,145 bytes: the capture's end isn't whole
-        &[(32, 0x2b)],
-        &[(32, 0x2d)],
-        &[(32, 0x01), (34, 0x04)],
-    ];
-    for changes in cases {
-        let mut shelf = shelf_with(alloc, &changed(alloc, changes)?)?;
+    let mut before = opened(alloc)?;
+    put_segment(&mut before, alloc)?;
+    put_record(&mut before, alloc, 1, (2, 50), (3, 53), b"ab")?;
+    let mut behind = opened(alloc)?;
+    put_record(&mut behind, alloc, 1, (2, 50), (3, 53), b"ab")?;
+    put_segment(&mut behind, alloc)?;
+    for capture in [before, behind] {
+        let mut shelf = shelf_with(alloc, &capture)?;
         let done = lab_top(alloc, &WORDS, &mut shelf);
-        assert_eq!(rt; done.status, Status::Unbuilt, "at {changes:?}");
+        assert_eq!(rt; done.status, Status::Unbuilt);
         expect_files(&rt, &shelf, None, None);
     }
     Ok(())
 }
 
 #[test]
-fn a_frame_is_read_by_its_link(rt: HostRuntime) -> Result<(), Fail> {
+fn a_capture_whose_end_is_not_whole_is_not_built(rt: HostRuntime) -> Result<(), Fail> {
     let alloc = rt.alloc();
-    // The Ethernet frame carries nothing as raw IP and behind both headers of Linux cooked captures.
-    let cases: [&[(usize, u8)]; 3] = [&[(20, 101)], &[(20, 113)], &[(20, 20), (21, 1)]];
+    // A captured length of 43, 45 and 262,145 bytes.
+    let cases: [&[(usize, u8)]; 3] = [&[(32, 0x2b)], &[(32, 0x2d)], &[(32, 0x01), (34, 0x04)]];
     for changes in cases {
         let mut shelf = shelf_with(alloc, &changed(alloc, changes)?)?;
         let done = lab_top(alloc, &WORDS, &mut shelf);

@@ -2,7 +2,8 @@ pub mod DrillLemmas
 pub mod FilesLemmas
 pub mod FramesLemmas
 pub mod HeadLemmas
-pub mod PacketsLemmas
+pub mod IntakeLemmas
+pub mod KindLemmas
 pub mod ReadLemmas
 pub mod VerdictLemmas
 pub mod WordsLemmas

@@ -1,49 +1,41 @@
-use Rattle.std.proofs.Common.{◌≡◌, ℕ, ◌+◌, ◌≤◌, ◌<◌, max, List, [], ◌∷◌, ◌++◌, length, refl, ap, sym, ◌∙◌, subst, Bool, true, false, cond, arith, append_assoc, nat_eq, nat_le, nat_lt}
-use Rattle.std.specs.Prelude.{Option, Some, None, Result, map, flat_map, codes, not, ◌&&◌}
+use Rattle.std.proofs.Common.{◌≡◌, ℕ, ◌+◌, ◌≤◌, ◌<◌, max, List, [], ◌∷◌, ◌++◌, length, refl, ap, sym, ◌∙◌, subst, Bool, true, false, cond, arith, append_assoc, nat_le}
+use Rattle.std.specs.Prelude.{Option, Result, map, flat_map, codes, ◌||◌}
 use Rattle.std.specs.Fmt.{decimal}
 use Rattle.std.specs.List.{sum_by}
 use Rattle.std.proofs.lemmas.Bool.Decides.{nat_tests}
 use Rattle.std.proofs.lemmas.List.{length-map}
 use Rattle.std.proofs.lemmas.List.Sums.{sum_by-cons}
+use Rattle.capfilter.specs.Expr.{Expr}
 use Rattle.datagrams.specs.declared.conversation.Conversation.{Conversation}
 use Rattle.datagrams.specs.declared.datagram.Datagram.{Datagram}
 use Rattle.datagrams.specs.Assembled.{RisesFrom}
-use Rattle.datagrams.specs.Capture.{IsCapture, IsReplay}
+use Rattle.datagrams.specs.declared.whole_replay.WholeReplay.{WholeReplay}
+use Rattle.datagrams.specs.Capture.{IsCapture, IsReplay, packet_for}
 use Rattle.datagrams.specs.Rows.{row_of, rows_of}
 use Rattle.datagrams.specs.Sums.{Sums, over_both, row_lines, rows_line}
 use Rattle.histbook.specs.JournalText.{journal_text}
 use Rattle.histbook.specs.declared.journal.Journal.{Journal}
 use Rattle.pcapfile.specs.declared.frame.Frame.{Frame}
-use Rattle.prio_budget.specs.MarkParts.{MarkParts}
-use Rattle.streamkey.specs.Key.{key_of}
-use Rattle.streamkey.specs.declared.addr.Addr.{Addr}
-use Rattle.streamkey.specs.declared.end.End.{End}
-use Rattle.streamkey.specs.declared.key.Key.{Key}
-use Rattle.streamkey.specs.declared.proto.Proto.{Proto}
-use Rattle.streamkey.specs.declared.proto.Proto.TheVariants.{Tcp, Udp}
-use Rattle.streamkey.specs.Order.{end_before}
-use Rattle.streamkey.specs.declared.toward.Toward.{Toward}
-use Rattle.streamkey.specs.declared.toward.Toward.TheVariants.{Up, Down}
+use Rattle.pcapfile.specs.declared.link.Link.{Link}
+use Rattle.porthdr.specs.Kind.{Kind, Accepted, Skipped}
+use Rattle.porthdr.specs.Transport.{kind_of}
 use Rattle.streamdefs.specs.Case.{line_of}
 use Rattle.streamdefs.specs.Lists.{Each, total}
 use Rattle.streamdefs.specs.Lawful.{Run}
 use Rattle.streamdefs.specs.Order.{all_looks, all_moves}
 use Rattle.streamdefs.specs.Packet.{Packet, is_tcp}
 use Rattle.streamdefs.specs.Report.{budget_line, head_lines, records_line, report_text, status_line}
+use Rattle.streamdefs.specs.Terms.{Terms}
 use Rattle.streamdefs.specs.Totals.{peak, refused}
-use Rattle.labtop.specs.declared.capture.TheConstants.{IDLE}
+use Rattle.labtop.specs.declared.intake.Intake.{Intake}
 use Rattle.labtop.specs.declared.outcome.Outcome.{Outcome}
 use Rattle.labtop.specs.declared.status.Status.{Status}
-use Rattle.labtop.specs.Drill.{Delivers, NotBuilt, is_long, of_packets}
+use Rattle.labtop.specs.Drill.{Delivers, NotBuilt, is_long, of_captured}
+use Rattle.labtop.specs.Found.{captured_by}
 use Rattle.labtop.specs.Gives.{Gives, HasTexts}
-use Rattle.labtop.specs.Headline.{all_accepted, done, report_for, run_in}
-use Rattle.pcapfile.specs.declared.link.Link.{Link}
-use Rattle.porthdr.specs.Kind.{Kind, Accepted, Skipped}
-use Rattle.porthdr.specs.Transport.{kind_of}
+use Rattle.labtop.specs.Headline.{done, report_for, run_in}
 use Rattle.labtop.specs.ReportLines.{lines_of, lines_with, numbers_line, over_all, totals_line}
-use Rattle.labtop.specs.Scapconf.{accepted_at, datagram_of, last_clock, packets_from}
-use Rattle.labtop.specs.Settings.{terms_of}
-use Rattle.labtop.proofs.PacketsLemmas.{from_packet}
+use Rattle.labtop.specs.Scapconf.{Fate, Taken, Filtered, Passed, Captured, captured, fate_of, fates, fates_from, first_moment, has_segment, holds, last_clock, packet_in, packets_of}
 
 -- The report.
 
@@ -69,123 +61,148 @@ numbers_are run stamps p r a b c = λ i. codes "budget stamps " ++ decimal (a i)
 flat : (h j a b c d e : List ℕ) → h ++ j ++ (a ++ b ++ c ++ d ++ e) ≡ h ++ j ++ a ++ b ++ c ++ d ++ e
 flat h j a b c d e = simp append_assoc
 
-report_is : (m : MarkParts) (packets : List Packet) (journal : Journal) (text : List ℕ) (table : List Conversation) (stamps p r : ℕ)
-    → IsReplay (terms_of m) packets (last_clock 0 packets) journal text table stamps p r
-    → report_for m packets journal ≡ lines_with journal table (all_accepted packets) stamps p r done
+report_is : (t : Terms) (c : Captured) (journal : Journal) (text : List ℕ) (table : List Conversation) (stamps p r : ℕ)
+    → IsReplay t c.packets c.last journal text table stamps p r
+    → report_for t c journal ≡ lines_with journal table c.counts stamps p r done
 unfolding report_text lines_with
-report_is m packets journal text table stamps p r h =
-    (λ i. head_lines ((length-map journal.cores (map (line_of packets)) ∙ h.one_core) i) (h.one_worker i) ++ journal_text journal ++ h.lines (all_accepted packets) done i)
-    ∙ (λ i. head_lines 1 1 ++ journal_text journal ++ (all_lines table i ++ records_line (all_accepted packets) ++ totals_are table i
-    ++ numbers_are (run_in m packets journal) stamps p r h.stamps_are h.peak_is h.refused_are i ++ status_line done))
-    ∙ flat (head_lines 1 1) (journal_text journal) (flat_map lines_of table) (records_line (all_accepted packets)) (totals_line (over_all (λ s. s.payload) table) (over_all (λ s. s.delivered) table) (over_all (λ s. s.shed) table))
+report_is t c journal text table stamps p r h =
+    (λ i. head_lines ((length-map journal.cores (map (line_of c.packets)) ∙ h.one_core) i) (h.one_worker i) ++ journal_text journal ++ h.lines c.counts done i)
+    ∙ (λ i. head_lines 1 1 ++ journal_text journal ++ (all_lines table i ++ records_line c.counts ++ totals_are table i
+    ++ numbers_are (run_in t c journal) stamps p r h.stamps_are h.peak_is h.refused_are i ++ status_line done))
+    ∙ flat (head_lines 1 1) (journal_text journal) (flat_map lines_of table) (records_line c.counts) (totals_line (over_all (λ s. s.payload) table) (over_all (λ s. s.delivered) table) (over_all (λ s. s.shed) table))
     (numbers_line stamps p r) (status_line done)
 
 -- the texts of a replay
-pub has_texts : (m : MarkParts) (packets : List Packet) (o : Outcome) (text : List ℕ) (table : List Conversation) (stamps p r : ℕ)
-    → IsReplay (terms_of m) packets (last_clock 0 packets) o.journal text table stamps p r
-    → o.delivery.items ≡ text → o.report.items ≡ lines_with o.journal table (all_accepted packets) stamps p r done → HasTexts m packets o
-has_texts m packets o text table stamps p r h delivery report = (
+pub has_texts : (t : Terms) (c : Captured) (o : Outcome) (text : List ℕ) (table : List Conversation) (stamps p r : ℕ)
+    → IsReplay t c.packets c.last o.journal text table stamps p r
+    → o.delivery.items ≡ text → o.report.items ≡ lines_with o.journal table c.counts stamps p r done → HasTexts t c o
+has_texts t c o text table stamps p r h delivery report = (
   record { lawful = h.lawful; history = h.history; accounted = h.accounted },
   delivery ∙ sym h.text_is,
-  report ∙ sym (report_is m packets o.journal text table stamps p r h),
+  report ∙ sym (report_is t c o.journal text table stamps p r h),
 )
+
+-- a replay of packets that are lent
+pub replayed_as : (t : Terms) (xs lent : List Datagram) (last first : ℕ) (w : WholeReplay) → lent ≡ xs → IsCapture t first (map packet_for xs)
+    → (IsCapture t first (map packet_for lent) → last < first + t.idle → IsReplay t (map packet_for lent) last w.journal w.text.items w.table w.stamps w.peak w.refused)
+    → last < first + t.idle → IsReplay t (map packet_for xs) last w.journal w.text.items w.table w.stamps w.peak w.refused
+replayed_as t xs lent last first w same is replayed until =
+    subst (λ (l : List Datagram). IsReplay t (map packet_for l) last w.journal w.text.items w.table w.stamps w.peak w.refused) same
+    (replayed (subst (λ (l : List Datagram). IsCapture t first (map packet_for l)) (sym same) is) until)
 
 -- The packets of a capture.
 
--- an accepted record's packet
-abbrev IsFirst : (number now : ℕ) → Option Packet → Type 0
-IsFirst number now None = Unit {0}
-IsFirst number now (Some p) = (p.number ≡ number) × (p.now ≡ now) × (is_tcp p ≡ false)
-
-first_of_kind : (number now : ℕ) (proto : Proto) (p : Packet) → proto ≡ p.key.proto → p.number ≡ number → p.now ≡ now → IsFirst number now (datagram_of proto p)
-first_of_kind number now Udp p e a b = (a, b, ap (λ (proto : Proto). is_tcp (record p { key = record p.key { proto = proto } })) (sym e))
-first_of_kind number now Tcp p e a b = tt
-
-is_first : (number now : ℕ) (kind : Kind) → IsFirst number now (accepted_at number now kind)
-is_first number now (Accepted key toward seq flags declared payload) =
-    first_of_kind number now key.proto (record { number = number; now = now; key = key; toward = toward; seq = 0; flags = 0; declared = declared; payload = payload }) refl refl refl
-is_first number now (Skipped skip) = tt
-
--- the clocks don't fall
-abbrev AreClocked : ℕ → List Packet → Type 0
-AreClocked clock [] = Unit {0}
-AreClocked clock (p ∷ packets) = (clock ≤ p.now) × AreClocked p.now packets
-
-record AreRead (number clock : ℕ) (packets : List Packet) : Type 0 where
+-- the numbers rise, no clock is before that one, and none is behind the last
+record AreRead (number clock last : ℕ) (packets : List Packet) : Type 0 where
   rises : RisesFrom number packets
-  udp : Each (λ p. is_tcp p ≡ false) packets
-  clocks : AreClocked clock packets
-
-abbrev AreReadIn : (number clock : ℕ) → Option (List Packet) → Type 0
-AreReadIn number clock None = Unit {0}
-AreReadIn number clock (Some packets) = AreRead number clock packets
+  from : Each (λ p. clock ≤ p.now) packets
+  until : Each (λ p. p.now ≤ last) packets
 
 later_rise : (n m : ℕ) (packets : List Packet) → n ≤ m → RisesFrom m packets → RisesFrom n packets
 later_rise n m [] l h = tt
 later_rise n m (p ∷ packets) l h = (omega (arith, h.0), h.1)
 
-one_more : (number clock now : ℕ) (first : Option Packet) (more : Option (List Packet)) → clock ≤ now → IsFirst number now first → AreReadIn (number + 1) now more → AreReadIn number clock (from_packet first more)
-one_more number clock now None more l f h = tt
-one_more number clock now (Some p) None l f h = tt
-one_more number clock now (Some p) (Some packets) l f h = record {
-  rises = (omega (arith, f.0), subst (λ (n : ℕ). RisesFrom (n + 1) packets) (sym f.0) h.rises);
-  udp = (f.2, h.udp);
-  clocks = (omega (arith, l, f.1), subst (λ (n : ℕ). AreClocked n packets) (sym f.1) h.clocks);
+later_from : (n m : ℕ) (packets : List Packet) → n ≤ m → Each (λ p. m ≤ p.now) packets → Each (λ p. n ≤ p.now) packets
+later_from n m [] l h = tt
+later_from n m (p ∷ packets) l h = (omega (arith, h.0), later_from n m packets l h.1)
+
+-- a taken record's packet has its number and clock
+abbrev HasItsPlace : (number now : ℕ) → Fate → Type 0
+HasItsPlace number now (Taken p) = (p.number ≡ number) × (p.now ≡ now)
+HasItsPlace number now Filtered = Unit {0}
+HasItsPlace number now (Passed why) = Unit {0}
+
+its_place : (filter : Option Expr) (number now : ℕ) (kind : Kind) → HasItsPlace number now (fate_of filter number now kind)
+its_place filter number now (Accepted key toward seq flags declared payload) =
+    either (holds filter key toward) (record { number = number; now = now; key = key; toward = toward; seq = seq; flags = flags; declared = declared; payload = payload }) refl refl
+  where
+    either : (b : Bool) (p : Packet) → p.number ≡ number → p.now ≡ now → HasItsPlace number now (cond b (Taken p) Filtered)
+    either true p e f = (e, f)
+    either false p e f = tt
+its_place filter number now (Skipped why) = tt
+
+-- the packets of a fate, in front of later ones
+one_more : (number clock now last : ℕ) (fate : Fate) (more : List Packet) → clock ≤ now → now ≤ last → HasItsPlace number now fate → AreRead (number + 1) now last more
+    → AreRead number clock last (packet_in fate ++ more)
+one_more number clock now last (Taken p) more l m f h = record {
+  rises = (omega (arith, f.0), subst (λ (n : ℕ). RisesFrom (n + 1) more) (sym f.0) h.rises);
+  from = (omega (arith, l, f.1), later_from clock now more l h.from);
+  until = (omega (arith, m, f.1), h.until);
 }
+one_more number clock now last Filtered more l m f h = record { rises = later_rise number (number + 1) more (omega arith) h.rises; from = later_from clock now more l h.from; until = h.until }
+one_more number clock now last (Passed why) more l m f h = record { rises = later_rise number (number + 1) more (omega arith) h.rises; from = later_from clock now more l h.from; until = h.until }
 
-all_read : (link : Link) (number clock : ℕ) (frames : List Frame) → AreReadIn number clock (packets_from link number clock frames)
-unfolding packets_from
-all_read link number clock [] = record { rises = tt; udp = tt; clocks = tt }
-all_read link number clock (frame ∷ frames) =
-    one_more number clock (max clock frame.moment) (accepted_at number (max clock frame.moment) (kind_of link frame.bytes)) (packets_from link (number + 1) (max clock frame.moment) frames) (omega arith)
-    (is_first number (max clock frame.moment) (kind_of link frame.bytes)) (all_read link (number + 1) (max clock frame.moment) frames)
-
-last_later : (clock : ℕ) (packets : List Packet) → AreClocked clock packets → clock ≤ last_clock clock packets
-last_later clock [] h = omega arith
-last_later clock (p ∷ packets) h = omega (arith, h.0, last_later p.now packets h.1)
-
-up_to_last : (clock : ℕ) (packets : List Packet) → AreClocked clock packets → Each (λ p. p.now ≤ last_clock clock packets) packets
-up_to_last clock [] h = tt
-up_to_last clock (p ∷ packets) h = (last_later p.now packets h.1, up_to_last p.now packets h.1)
-
-from_first : (first clock : ℕ) (packets : List Packet) → first ≤ clock → AreClocked clock packets → Each (λ p. first ≤ p.now) packets
-from_first first clock [] l h = tt
-from_first first clock (p ∷ packets) l h = (omega (arith, h.0), from_first first p.now packets (omega (arith, h.0)) h.1)
+all_read : (filter : Option Expr) (link : Link) (number clock last : ℕ) (frames : List Frame) → max clock (last_clock frames) ≤ last
+    → AreRead number clock last (packets_of (fates_from filter link number clock frames))
+unfolding fates_from
+all_read filter link number clock last [] h = record { rises = tt; from = tt; until = tt }
+all_read filter link number clock last (frame ∷ frames) h =
+    one_more number clock (max clock frame.moment) last (fate_of filter number (max clock frame.moment) (kind_of link frame.bytes))
+    (packets_of (fates_from filter link (number + 1) (max clock frame.moment) frames)) (omega arith) (omega arith)
+    (its_place filter number (max clock frame.moment) (kind_of link frame.bytes))
+    (all_read filter link (number + 1) (max clock frame.moment) last frames (omega arith))
 
 each_below : (last most : ℕ) (packets : List Packet) → last < most → Each (λ p. p.now ≤ last) packets → Each (λ p. p.now < most) packets
 each_below last most [] l h = tt
 each_below last most (p ∷ packets) l h = (omega (arith, h.0), each_below last most packets l h.1)
 
-abbrev pub first_of : List Packet → ℕ
-first_of [] = 0
-first_of (p ∷ packets) = p.now
+or_not : (b d : Bool) → (b || d) ≡ false → b ≡ false
+or_not true d h = h
+or_not false d h = refl
 
-is_brief : (a b : ℕ) → nat_le (a + IDLE) b ≡ false → b < a + IDLE
-is_brief a b h = grind (arith, nat_tests)
+no_segments : (packets : List Packet) → has_segment packets ≡ false → Each (λ p. is_tcp p ≡ false) packets
+no_segments [] h = tt
+no_segments (p ∷ packets) h = (or_not (is_tcp p) (has_segment packets) h, no_segments packets (rest (is_tcp p) (has_segment packets) h))
+  where
+    rest : (b d : Bool) → (b || d) ≡ false → d ≡ false
+    rest true d h = cc
+    rest false d h = h
+
+is_brief : (a b n : ℕ) → nat_le (a + n) b ≡ false → b < a + n
+is_brief a b n h = grind (arith, nat_tests)
+
+-- the packets of a capture's records from the first record's moment on, which itself is not before it
+from_first : (filter : Option Expr) (link : Link) (frames : List Frame) → AreRead 1 (first_moment frames) (last_clock frames) (packets_of (fates filter link frames))
+unfolding fates_from
+from_first filter link [] = record { rises = tt; from = tt; until = tt }
+from_first filter link (frame ∷ frames) =
+    let same : max 0 frame.moment ≡ max frame.moment frame.moment = omega arith in
+    subst (λ (n : ℕ). AreRead 1 frame.moment (last_clock (frame ∷ frames)) (packets_of (fate_of filter 1 n (kind_of link frame.bytes) ∷ fates_from filter link 2 n frames))) (sym same)
+    (all_read filter link 1 frame.moment (last_clock (frame ∷ frames)) (frame ∷ frames) (omega arith))
 
 -- the packets of a capture that is shorter than the idle time
-capture_is : (m : MarkParts) (packets : List Packet) → AreRead 1 0 packets → is_long packets ≡ false → IsCapture (terms_of m) (first_of packets) packets × (last_clock 0 packets < first_of packets + IDLE)
-capture_is m [] h brief = (record { rises = tt; udp = tt; from = tt; until = tt }, omega arith)
-capture_is m (p ∷ packets) h brief =
-    let less : last_clock p.now packets < p.now + IDLE = is_brief p.now (last_clock p.now packets) brief in (
+pub capture_of : (t : Terms) (filter : Option Expr) (link : Link) (frames : List Frame) → has_segment (captured filter link frames).packets ≡ false → is_long t.idle (captured filter link frames) ≡ false
+    → IsCapture t (first_moment frames) (captured filter link frames).packets × (last_clock frames < first_moment frames + t.idle)
+capture_of t filter link frames udp brief =
+    let read = from_first filter link frames in
+    let less : last_clock frames < first_moment frames + t.idle = is_brief (first_moment frames) (last_clock frames) t.idle brief in (
       record {
-        rises = h.rises;
-        udp = h.udp;
-        from = from_first p.now p.now (p ∷ packets) (omega arith) (omega arith, h.clocks.1);
-        until = each_below (last_clock p.now packets) (p.now + IDLE) (p ∷ packets) less (last_later p.now packets h.clocks.1, up_to_last p.now packets h.clocks.1);
+        rises = read.rises;
+        udp = no_segments (captured filter link frames).packets udp;
+        from = read.from;
+        until = each_below (last_clock frames) (first_moment frames + t.idle) (captured filter link frames).packets less read.until;
       },
       less,
     )
 
-pub capture_of : (m : MarkParts) (link : Link) (frames : List Frame) (packets : List Packet) → Some packets ≡ packets_from link 1 0 frames → is_long packets ≡ false
-    → IsCapture (terms_of m) (first_of packets) packets × (last_clock 0 packets < first_of packets + IDLE)
-capture_of m link frames packets e brief = capture_is m packets (subst (AreReadIn 1 0) (sym e) (all_read link 1 0 frames)) brief
-
 -- what is given of packets that are delivered
-pub gives_texts : (m : MarkParts) (r : Result Outcome Status) (link : Link) (frames : List Frame) (packets : List Packet) → Some packets ≡ packets_from link 1 0 frames → is_long packets ≡ false
-    → Gives m r (Delivers packets) → Gives m r (of_packets (packets_from link 1 0 frames))
-gives_texts m r link frames packets e brief h =
-    subst (λ (o : Option (List Packet)). Gives m r (of_packets o)) e (subst (λ (b : Bool). Gives m r (cond b NotBuilt (Delivers packets))) (sym brief) h)
+pub gives_texts : (t : Terms) (r : Result Outcome Status) (c : Captured) → has_segment c.packets ≡ false → is_long t.idle c ≡ false
+    → Gives t r (Delivers c) → Gives t r (of_captured t.idle c)
+gives_texts t r c udp brief h =
+    let neither : (has_segment c.packets || is_long t.idle c) ≡ false = ap (λ (b : Bool). b || is_long t.idle c) udp ∙ brief in
+    subst (λ (b : Bool). Gives t r (cond b NotBuilt (Delivers c))) (sym neither) h
+
+-- what is given of what is kept
+pub given_by : (t : Terms) (r : Result Outcome Status) (intake : Intake) (filter : Option Expr) (link : Link) (frames : List Frame) → captured_by intake ≡ captured filter link frames
+    → has_segment (captured filter link frames).packets ≡ false → is_long t.idle (captured_by intake) ≡ false
+    → ((first : ℕ) → IsCapture t first (captured_by intake).packets → (captured_by intake).last < first + t.idle → Gives t r (Delivers (captured_by intake)))
+    → Gives t r (of_captured t.idle (captured filter link frames))
+given_by t r intake filter link frames same udp brief given =
+    let short : is_long t.idle (captured filter link frames) ≡ false = ap (is_long t.idle) (sym same) ∙ brief in
+    let capture = capture_of t filter link frames udp short in
+    let texts : (first : ℕ) → IsCapture t first (captured filter link frames).packets → (captured filter link frames).last < first + t.idle → Gives t r (Delivers (captured filter link frames)) =
+    subst (λ (c : Captured). (first : ℕ) → IsCapture t first c.packets → c.last < first + t.idle → Gives t r (Delivers c)) same given in
+    gives_texts t r (captured filter link frames) udp short (texts (first_moment frames) capture.0 capture.1)
 
 -- sums by either word
 pub totals_agree : (xs : List Datagram) → total (λ (p : Datagram). length p.payload.now) xs ≡ sum_by (λ (p : Datagram). length p.payload.now) xs

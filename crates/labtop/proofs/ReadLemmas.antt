@@ -4,6 +4,7 @@ use Rattle.std.proofs.lemmas.List.{take-append-drop, take_all, take_at}
 use Rattle.scap_world.specs.Contents.{prefixed, dropped}
 use Rattle.labtop.specs.declared.capture.TheConstants.{MOST_BUILT}
 use Rattle.labtop.specs.Drill.{verdict_of}
+use Rattle.labtop.specs.Settings.{Plan}
 use Rattle.labtop.proofs.VerdictLemmas.{verdict_of-take}
 
 -- a read moves the front of what is left behind what was read
@@ -31,8 +32,8 @@ read_most whole None bytes m e le = subst (λ (o : Option (List ℕ)). IfSome o 
 read_most whole (Some b) bytes m e le = subst (λ (o : Option (List ℕ)). IfSome o (λ w. bytes ≡ take m w)) (sym e) (sym (take_at bytes b m le))
 
 -- what was read of a file asks for what the file asks for
-pub verdict_read : (told left : Option (List ℕ)) (bytes : List ℕ) → left ≡ told → IfSome left (λ file. bytes ≡ take (MOST_BUILT + 1) file)
-    → IfSome told (λ file. verdict_of file ≡ verdict_of bytes)
-verdict_read told None bytes e h = subst (λ (o : Option (List ℕ)). IfSome o (λ file. verdict_of file ≡ verdict_of bytes)) e tt
-verdict_read told (Some file) bytes e h =
-    subst (λ (o : Option (List ℕ)). IfSome o (λ file. verdict_of file ≡ verdict_of bytes)) e (sym (ap verdict_of h ∙ verdict_of-take file))
+pub verdict_read : (plan : Plan) (told left : Option (List ℕ)) (bytes : List ℕ) → left ≡ told → IfSome left (λ file. bytes ≡ take (MOST_BUILT + 1) file)
+    → IfSome told (λ file. verdict_of plan file ≡ verdict_of plan bytes)
+verdict_read plan told None bytes e h = subst (λ (o : Option (List ℕ)). IfSome o (λ file. verdict_of plan file ≡ verdict_of plan bytes)) e tt
+verdict_read plan told (Some file) bytes e h =
+    subst (λ (o : Option (List ℕ)). IfSome o (λ file. verdict_of plan file ≡ verdict_of plan bytes)) e (sym (ap (verdict_of plan) h ∙ verdict_of-take plan file))

@@ -1,18 +1,18 @@
-use Rattle.std.specs.Prelude.{ℕ, ◌+◌, List, [], ◌∷◌, length, Bool, true, false, not, ◌||◌, nat_lt, nat_le, if◌then◌else◌, Option, Some, None, Result, Ok, Err}
+use Rattle.std.specs.Prelude.{ℕ, ◌+◌, List, length, Bool, ◌||◌, nat_lt, nat_le, if◌then◌else◌, Option, Some, None, Result, Ok, Err}
 use Rattle.pcapfile.specs.declared.head.FileHead.{FileHead}
 use Rattle.pcapfile.specs.declared.head_fault.HeadFault.{HeadFault}
 use Rattle.pcapfile.specs.declared.link.Link.{Link}
 use Rattle.pcapfile.specs.declared.frame.Frame.{Frame}
 use Rattle.pcapfile.specs.Capture.{Limits, End, Whole, Cut, TooBig, TooLong, Records, capture_of}
-use Rattle.labtop.specs.declared.capture.TheConstants.{MOST_FRAMES, MOST_BYTES, MOST_BUILT, IDLE}
-use Rattle.streamdefs.specs.Packet.{Packet}
-use Rattle.labtop.specs.Scapconf.{last_clock, packets_from}
+use Rattle.labtop.specs.declared.capture.TheConstants.{MOST_FRAMES, MOST_BYTES, MOST_BUILT}
+use Rattle.labtop.specs.Scapconf.{Captured, captured, has_segment}
+use Rattle.labtop.specs.Settings.{Plan}
 
 -- docs/RULES.md, "Answers".
 
 -- what a capture's bytes ask for: the delivery of its packets, a refusal, or what isn't built yet
 pub data Verdict : Type 0 where
-  Delivers : List Packet → Verdict
+  Delivers : Captured → Verdict
   Refused : HeadFault → Verdict
   NotBuilt : Verdict
 
@@ -29,24 +29,22 @@ whole_in frames TooLong = None
 unfoldable pub whole_of : Records → Option (List Frame)
 whole_of records = whole_in records.frames records.end
 
--- whether a conversation could end before the capture does: the last clock is past the first one by the idle time
-abbrev pub is_long : List Packet → Bool
-is_long [] = false
-is_long (p ∷ packets) = nat_le (p.now + IDLE) (last_clock p.now packets)
+-- whether a conversation could end before the capture does: the last clock is past the first record's moment by the idle time
+abbrev pub is_long : ℕ → Captured → Bool
+is_long idle c = nat_le (c.first + idle) c.last
 
--- of the packets of all records, where each record is a datagram that is accepted
-abbrev pub of_packets : Option (List Packet) → Verdict
-of_packets None = NotBuilt
-of_packets (Some packets) = if is_long packets then NotBuilt else Delivers packets
+-- of what the records are: segments of TCP aren't built yet, nor the end of a conversation that is idle
+abbrev pub of_captured : ℕ → Captured → Verdict
+of_captured idle c = if has_segment c.packets || is_long idle c then NotBuilt else Delivers c
 
-abbrev pub of_frames : Link → Option (List Frame) → Verdict
-of_frames link None = NotBuilt
-of_frames link (Some frames) = of_packets (packets_from link 1 0 frames)
+abbrev pub of_frames : Plan → Link → Option (List Frame) → Verdict
+of_frames plan link None = NotBuilt
+of_frames plan link (Some frames) = of_captured plan.terms.idle (captured plan.filter link frames)
 
-abbrev pub of_capture : ℕ → Result (FileHead × Records) HeadFault → Verdict
-of_capture size (Err fault) = Refused fault
-of_capture size (Ok capture) =
-    if nat_lt MOST_BUILT size then NotBuilt else of_frames capture.0.link (whole_of capture.1)
+abbrev pub of_capture : Plan → ℕ → Result (FileHead × Records) HeadFault → Verdict
+of_capture plan size (Err fault) = Refused fault
+of_capture plan size (Ok capture) =
+    if nat_lt MOST_BUILT size then NotBuilt else of_frames plan capture.0.link (whole_of capture.1)
 
-unfoldable pub verdict_of : List ℕ → Verdict
-verdict_of file = of_capture (length file) (capture_of limits file)
+unfoldable pub verdict_of : Plan → List ℕ → Verdict
+verdict_of plan file = of_capture plan (length file) (capture_of limits file)

@@ -1,29 +1,29 @@
-use Rattle.std.specs.Prelude.{◌≡◌, List, Result, Ok, Err}
+use Rattle.std.specs.Prelude.{◌≡◌, Result, Ok, Err}
 use Rattle.labtop.specs.declared.outcome.Outcome.{Outcome}
 use Rattle.labtop.specs.declared.status.Status.{Status}
 use Rattle.labtop.specs.declared.status.Status.TheVariants.{Done, Memory, Usage, ReadFault, WriteFault, NotPcap, Unbuilt}
-use Rattle.prio_budget.specs.MarkParts.{MarkParts}
-use Rattle.streamdefs.specs.Packet.{Packet}
+use Rattle.streamdefs.specs.Terms.{Terms}
 use Rattle.labtop.specs.Headline.{IsRun, delivery_for, report_for}
+use Rattle.labtop.specs.Scapconf.{Captured}
 use Rattle.labtop.specs.Drill.{Verdict, Delivers, Refused, NotBuilt}
 
 -- a journal that is lawful for packets, and its texts
-abbrev pub HasTexts : MarkParts → List Packet → Outcome → Type 0
-HasTexts marks packets o = IsRun marks packets o.journal × (o.delivery.items ≡ delivery_for marks packets o.journal) × (o.report.items ≡ report_for marks packets o.journal)
+abbrev pub HasTexts : Terms → Captured → Outcome → Type 0
+HasTexts terms c o = IsRun terms c o.journal × (o.delivery.items ≡ delivery_for terms c o.journal) × (o.report.items ≡ report_for terms c o.journal)
 
 -- a journal that is lawful for a verdict's packets, and its texts, or the verdict's refusal; want of memory may stand in place of either
-abbrev pub Gives : MarkParts → Result Outcome Status → Verdict → Type 0
-Gives marks (Ok o) (Delivers packets) = HasTexts marks packets o
-Gives marks (Ok o) (Refused fault) = ⊥
-Gives marks (Ok o) NotBuilt = ⊥
-Gives marks (Err Memory) verdict = Unit {0}
-Gives marks (Err Done) verdict = ⊥
-Gives marks (Err Usage) verdict = ⊥
-Gives marks (Err ReadFault) verdict = ⊥
-Gives marks (Err WriteFault) verdict = ⊥
-Gives marks (Err (NotPcap kind)) (Delivers packets) = ⊥
-Gives marks (Err (NotPcap kind)) (Refused fault) = kind ≡ fault
-Gives marks (Err (NotPcap kind)) NotBuilt = ⊥
-Gives marks (Err Unbuilt) (Delivers packets) = ⊥
-Gives marks (Err Unbuilt) (Refused fault) = ⊥
-Gives marks (Err Unbuilt) NotBuilt = Unit {0}
+abbrev pub Gives : Terms → Result Outcome Status → Verdict → Type 0
+Gives terms (Ok o) (Delivers c) = HasTexts terms c o
+Gives terms (Ok o) (Refused fault) = ⊥
+Gives terms (Ok o) NotBuilt = ⊥
+Gives terms (Err Memory) verdict = Unit {0}
+Gives terms (Err Done) verdict = ⊥
+Gives terms (Err Usage) verdict = ⊥
+Gives terms (Err ReadFault) verdict = ⊥
+Gives terms (Err WriteFault) verdict = ⊥
+Gives terms (Err (NotPcap kind)) (Delivers c) = ⊥
+Gives terms (Err (NotPcap kind)) (Refused fault) = kind ≡ fault
+Gives terms (Err (NotPcap kind)) NotBuilt = ⊥
+Gives terms (Err Unbuilt) (Delivers c) = ⊥
+Gives terms (Err Unbuilt) (Refused fault) = ⊥
+Gives terms (Err Unbuilt) NotBuilt = Unit {0}

@@ -1,4 +1,5 @@
 pub mod Scapconf
+pub mod Found
 pub mod Settings
 pub mod Headline
 pub mod Drill

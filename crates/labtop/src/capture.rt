@@ -18,9 +18,6 @@ pub(crate) const MOST_BYTES: u64 = 4_294_967_296;
 /// The most bytes of a capture that is taken yet.
 pub(crate) const MOST_BUILT: usize = 16_777_216;
 
-/// The idle time of a conversation, in nanoseconds: 300 seconds.
-pub(crate) const IDLE: u64 = 300_000_000_000;
-
 /// The records of a capture whose end is whole, by the bytes behind its head.
 #[tactic(auto, using(crate::proofs::FramesLemmas::passed_rest, std::proofs::lemmas::List::Sums::sum_by_push))]
 pub(crate) fn whole_frames(

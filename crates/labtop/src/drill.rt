@@ -6,10 +6,12 @@ ghost use Rattle.labtop.specs.Names.{delivery_name, report_name};
 ghost use Rattle.labtop.specs.Drill.{verdict_of};
 ghost use Rattle.labtop.specs.Answers.{Allows, AllowsUnread, Completes, IsBefore, IsDone, IsPart, LeavesParts};
 ghost use Rattle.labtop.specs.Headline.{IsEmpty};
+ghost use Rattle.labtop.specs.Settings.{plan_with};
 
 use crate::files::{read_capture, write_file};
 use crate::names::{name_of_delivery, name_of_report};
 use crate::outcome::{Outcome, outcome_for};
+use crate::setup::Setup;
 use crate::{LabDone, Status};
 use prio_budget::Marks;
 use scap_world::Shelf;
@@ -53,18 +55,18 @@ pub fn drill_run<S: Shelf>(
     shelf: &mut S,
 ) -> LabDone
     // What the capture's bytes ask for is answered, or a fault of the outside.
-    ensures verdict { IfSome (told_file (S.files shelf.old) capture.now) (λ bytes. Allows (verdict_of bytes) result.status) }
+    ensures verdict { IfSome (told_file (S.files shelf.old) capture.now) (λ bytes. Allows (verdict_of (plan_with marks.now) bytes) result.status) }
     ensures unread { IfSome (S.files shelf.old) (λ files. IfNone (file_of files capture.now) (AllowsUnread result.status)) }
     ensures never { result.status ≢ Status.Usage }
 
     // Where it is done, the journal is lawful, its budget's history is one, and the two files are its texts.
     ensures done { result.status ≡ Status.Done → IfSome (told_file (S.files shelf.old) capture.now)
-        (λ bytes. IsDone marks.now (verdict_of bytes) out.now result.journal (S.files shelf.old) (S.files shelf.new)) }
+        (λ bytes. IsDone (plan_with marks.now).terms (verdict_of (plan_with marks.now) bytes) out.now result.journal (S.files shelf.old) (S.files shelf.new)) }
     ensures journal { result.status ≢ Status.Done → IsEmpty result.journal }
 
     // Whatever the status, an output is as it was or holds a front of its text, and no other file is touched.
     ensures parts { IfSome (told_file (S.files shelf.old) capture.now)
-        (λ bytes. LeavesParts marks.now (verdict_of bytes) out.now (S.files shelf.old) (S.files shelf.new)) }
+        (λ bytes. LeavesParts (plan_with marks.now).terms (verdict_of (plan_with marks.now) bytes) out.now (S.files shelf.old) (S.files shelf.new)) }
     ensures before { IsBefore result.status → S.files shelf.new ≡ S.files shelf.old }
     ensures others { (other : List ℕ) → other ≢ delivery_name out.now → other ≢ report_name out.now
         → told_file (S.files shelf.new) other ≡ told_file (S.files shelf.old) other }
@@ -79,16 +81,17 @@ pub fn drill_run<S: Shelf>(
     ensures complete { (Rose (S.read_faults shelf.old capture.now) (S.read_faults shelf.new capture.now) → ⊥)
         → (Rose (S.write_faults shelf.old (delivery_name out.now)) (S.write_faults shelf.new (delivery_name out.now)) → ⊥)
         → (Rose (S.write_faults shelf.old (report_name out.now)) (S.write_faults shelf.new (report_name out.now)) → ⊥)
-        → IfSome (told_file (S.files shelf.old) capture.now) (λ bytes. Completes (verdict_of bytes) result.status) }
+        → IfSome (told_file (S.files shelf.old) capture.now) (λ bytes. Completes (verdict_of (plan_with marks.now) bytes) result.status) }
 
     // What was opened is ended, and what was created is finished.
     ensures open_files { S.open_files shelf.new ≡ S.open_files shelf.old }
 {
+    let setup = Setup::with_marks(marks);
     let bytes = match read_capture(alloc, shelf, capture) {
         Ok(bytes) => bytes,
         Err(status) => return LabDone::without_report(alloc, status),
     };
-    let outcome = match outcome_for(alloc, marks, &bytes) {
+    let outcome = match outcome_for(alloc, &setup, &bytes) {
         Ok(outcome) => outcome,
         Err(status) => return LabDone::without_report(alloc, status),
     };

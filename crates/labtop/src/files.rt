@@ -6,6 +6,7 @@ ghost use Rattle.scap_world.specs.Contents.{prefixed};
 ghost use Rattle.labtop.specs.Causes.{writes_status, reads_status};
 ghost use Rattle.labtop.specs.Answers.{IsPart};
 ghost use Rattle.labtop.specs.Drill.{verdict_of};
+ghost use Rattle.labtop.specs.Settings.{Plan};
 
 use crate::Status;
 use crate::capture::MOST_BUILT;
@@ -81,7 +82,7 @@ pub(crate) fn read_capture<S: Shelf>(
     shelf: &mut S,
     name: &str,
 ) -> Result<Vec<u8>, Status>
-    ensures verdict { IfOk result (λ v. IfSome (told_file (S.files shelf.old) name.now) (λ bytes. verdict_of bytes ≡ verdict_of v.items)) }
+    ensures verdict { (plan : Plan) → IfOk result (λ v. IfSome (told_file (S.files shelf.old) name.now) (λ bytes. verdict_of plan bytes ≡ verdict_of plan v.items)) }
     ensures there { OnOk result (IsThere (S.files shelf.old) name.now) }
     ensures files { S.files shelf.new ≡ S.files shelf.old }
     ensures kinds { IfErr result (λ e. (e ≡ Status.Memory) ⊎ (e ≡ Status.ReadFault)) }

@@ -1,10 +1,16 @@
 //! What the headline's clause says of a run, each law as the contract of a function with an empty body.
-ghost use Rattle.std.specs.Prelude.{◌≡◌, ◌+◌, ◌<◌, ◌≤◌, true, false, List};
+ghost use Rattle.std.specs.Prelude.{◌≡◌, ◌+◌, ◌<◌, ◌≤◌, ℕ, true, false, List, length, take, slice_index_or, Option};
+ghost use Rattle.capfilter.specs.Expr.{Expr};
 ghost use Rattle.histbook.specs.declared.look_entry.LookEntry.{LookEntry};
+ghost use Rattle.labtop.specs.Scapconf.{Fate, captured, fate_of, fates, last_clock};
+ghost use Rattle.pcapfile.specs.declared.frame.Frame.{Frame};
+ghost use Rattle.pcapfile.specs.declared.link.Link.{Link};
+ghost use Rattle.porthdr.specs.Transport.{kind_of};
 ghost use Rattle.streamdefs.specs.Accounts.{IsAccounted};
 ghost use Rattle.streamdefs.specs.Convo.{Convo, mark_for};
 ghost use Rattle.streamdefs.specs.Lawful.{IsLookFor};
 ghost use Rattle.streamdefs.specs.Lists.{Each, total};
+ghost use Rattle.streamdefs.specs.Report.{records_of};
 ghost use Rattle.streamdefs.specs.Terms.{Terms};
 ghost use Rattle.streamdefs.specs.Totals.{Total};
 ghost use Rattle.streamdefs.specs.View.{Ask};
@@ -23,4 +29,18 @@ pub fn a_refused_look_found_its_mark_passed()
         → mark_for terms c ask < look.look.found + look.asked }
     ensures granted { (terms : Terms) (c : Convo) (look : LookEntry) (ask : Ask) → IsLookFor terms c look ask → look.granted ≡ true
         → look.look.found + look.asked ≤ mark_for terms c ask }
+{}
+
+/// Each record of a capture is counted once.
+#[tactic(auto, using(crate::proofs::IntakeLemmas::all_counted))]
+pub fn each_record_is_counted_once()
+    ensures { (filter : Option Expr) (link : Link) (frames : List Frame) → records_of (captured filter link frames).counts ≡ length frames }
+{}
+
+/// What becomes of a record is by its number from 1 on, and by the greatest moment of the records up to it.
+#[tactic(auto, using(crate::proofs::IntakeLemmas::fate_at))]
+pub fn a_record_has_its_number_and_its_clock()
+    ensures { (filter : Option Expr) (link : Link) (frames : List Frame) (i : ℕ) (none : Fate) (nothing : Frame) → i < length frames
+        → slice_index_or (fates filter link frames) i none
+        ≡ fate_of filter (i + 1) (last_clock (take (i + 1) frames)) (kind_of link (slice_index_or frames i nothing).bytes) }
 {}

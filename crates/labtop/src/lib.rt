@@ -1,24 +1,24 @@
 //! The commands that run in one thread, from the words and the files of a shelf to a status and the files.
 //! Each answer has its cause as a clause of `lab_top`, and the files written are the defined texts of the capture.
-//! Stands on scap_world (the files), pcapfile (the capture), linkip and porthdr (the headers), streamkey (keys), datagrams (the
-//! replay), histbook (the journal), prio_budget (the marks), the definitions of streamdefs, evring, and itoa.
+//! Stands on scap_world (the files), pcapfile (the capture), linkip and porthdr (the headers), capfilter (the filter), streamkey
+//! (keys), datagrams (the replay), histbook (the journal), prio_budget (the marks), the definitions of streamdefs, evring, and itoa.
 #![tactic(auto)]
 
 mod capture;
 mod counts;
 mod drill;
 mod files;
+mod found;
+mod intake;
 mod lab_done;
 pub mod laws;
 mod memory;
 mod names;
 mod outcome;
-mod packet;
-mod packets;
 mod put;
 mod report;
 pub mod rows;
-mod settings;
+mod setup;
 mod status;
 mod summary;
 mod top;

@@ -1,22 +1,22 @@
 // The files of a capture.
 ghost use Rattle.std.specs.Prelude.{ℕ, ◌+◌, ◌<◌, ◌^◌, IfOk, length, map, sum_by};
 ghost use Rattle.datagrams.specs.Capture.{packet_for, IsCapture};
-ghost use Rattle.labtop.specs.Drill.{of_packets, verdict_of};
+ghost use Rattle.labtop.specs.Drill.{of_captured, verdict_of};
+ghost use Rattle.labtop.specs.Found.{captured_by};
 ghost use Rattle.labtop.specs.Gives.{Gives, HasTexts};
-ghost use Rattle.labtop.specs.Scapconf.{last_clock, packets_from};
-ghost use Rattle.labtop.specs.Settings.{terms_of};
-ghost use Rattle.labtop.specs.declared.capture.TheConstants.{IDLE};
+ghost use Rattle.labtop.specs.Scapconf.{captured};
+ghost use Rattle.labtop.specs.Settings.{plan_of};
 ghost use Rattle.streamdefs.specs.Lists.{total};
+ghost use Rattle.streamdefs.specs.Report.{records_of};
 
 use crate::capture::{MOST_BUILT, whole_frames};
-use crate::packets::{last_of, lasts_long, packets_in};
-use crate::settings::CHUNK;
+use crate::intake::{Intake, intake_of};
+use crate::setup::Setup;
 use crate::summary::report;
 use crate::{Memory, Status};
-use datagrams::{Datagram, WholeReplay, replay_all};
+use datagrams::replay_all;
 use histbook::Journal;
 use pcapfile::{FileHead, Frame, Link};
-use prio_budget::Marks;
 use std::alloc::Global;
 
 /// The journal of a run, and the texts of its two files.
@@ -27,16 +27,22 @@ pub(crate) struct Outcome {
     pub report: Vec<u8>,
 }
 
-/// The files of packets.
-fn outcome_with(alloc: Global, marks: &Marks, packets: &[Datagram<'_>]) -> Result<Outcome, Memory>
-    requires { total (λ p. length p.payload.now) packets.now < 2 ^ 32 }
-    ensures { (first : ℕ) → IsCapture (terms_of marks.now) first (map packet_for packets.now) → last_clock 0 (map packet_for packets.now) < first + IDLE
-        → IfOk result (HasTexts marks.now (map packet_for packets.now)) }
+/// The files of what a capture's records are.
+fn outcome_with(alloc: Global, setup: &Setup, intake: &Intake<'_>) -> Result<Outcome, Memory>
+    requires few { records_of intake.now.counts < 2 ^ 64 }
+    requires fits { total (λ p. length p.payload.now) intake.now.packets.items < 2 ^ 32 }
+    ensures { (first : ℕ) → IsCapture (plan_of setup.now).terms first (map packet_for intake.now.packets.items) → intake.now.last < first + setup.now.idle
+        → IfOk result (HasTexts (plan_of setup.now).terms (captured_by intake.now)) }
 {
-    let last = last_of(packets);
-    let (_, replayed) = replay_all(alloc, marks, CHUNK, packets, last);
+    let (_, replayed) = replay_all(
+        alloc,
+        &setup.marks,
+        setup.chunk,
+        &intake.packets,
+        intake.last,
+    );
     let whole = replayed?;
-    let report = report(alloc, packets.len() as u64, &whole)?;
+    let report = report(alloc, &intake.counts, &whole)?;
     Ok(Outcome {
         journal: whole.journal,
         delivery: whole.text,
@@ -45,25 +51,25 @@ fn outcome_with(alloc: Global, marks: &Marks, packets: &[Datagram<'_>]) -> Resul
 }
 
 /// The files of a capture's records.
-fn outcome_of(alloc: Global, marks: &Marks, link: Link, frames: &[Frame]) -> Result<Outcome, Status>
+fn outcome_of(alloc: Global, setup: &Setup, link: Link, frames: &[Frame]) -> Result<Outcome, Status>
     requires few { length frames.now < 2 ^ 32 }
     requires fits { sum_by (λ f. length f.bytes) frames.now < 2 ^ 31 }
-    ensures { Gives marks.now result (of_packets (packets_from link 1 0 frames.now)) }
+    ensures { Gives (plan_of setup.now).terms result (of_captured setup.now.idle (captured setup.now.filter link frames.now)) }
 {
-    let found = packets_in(alloc, link, frames)?;
-    let Some(packets) = found else {
+    let found = intake_of(alloc, setup, link, frames)?;
+    let Some(intake) = found else {
         return Err(Status::Unbuilt);
     };
-    if lasts_long(&packets) {
+    if intake.last.saturating_sub(intake.first) >= setup.idle {
         return Err(Status::Unbuilt);
     }
-    Ok(outcome_with(alloc, marks, &packets)?)
+    Ok(outcome_with(alloc, setup, &intake)?)
 }
 
 /// The files of a capture.
 #[tactic(auto, unfolding(crate::specs::Drill::verdict_of))]
-pub(crate) fn outcome_for(alloc: Global, marks: &Marks, bytes: &[u8]) -> Result<Outcome, Status>
-    ensures { Gives marks.now result (verdict_of bytes.now) }
+pub(crate) fn outcome_for(alloc: Global, setup: &Setup, bytes: &[u8]) -> Result<Outcome, Status>
+    ensures { Gives (plan_of setup.now).terms result (verdict_of (plan_of setup.now) bytes.now) }
 {
     let head = match FileHead::read(bytes) {
         Ok(head) => head,
@@ -76,5 +82,5 @@ pub(crate) fn outcome_for(alloc: Global, marks: &Marks, bytes: &[u8]) -> Result<
     let Some(frames) = found else {
         return Err(Status::Unbuilt);
     };
-    outcome_of(alloc, marks, head.link, &frames)
+    outcome_of(alloc, setup, head.link, &frames)
 }

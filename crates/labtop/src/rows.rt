@@ -1,36 +1,89 @@
 //! The definitions, evaluated on small captures: each is the contract of a function with an empty body.
+#![tactic(auto, unfolding(pcapfile::specs::Head::head_of, pcapfile::specs::Capture::place_of, pcapfile::specs::Capture::record_at, pcapfile::specs::Capture::records_from, linkip::specs::Frames::behind_tag, linkip::specs::Frames::by_ether_type, linkip::specs::Frames::behind_header, linkip::specs::Frames::by_version, linkip::specs::Ipv4::is_short, linkip::specs::Ipv4::is_fragment, linkip::specs::Ipv4::ipv4, linkip::specs::Ipv6::is_short, linkip::specs::Ipv6::upper_within, linkip::specs::Ipv6::by_next, linkip::specs::Ipv6::above, linkip::specs::Ipv6::ipv6, porthdr::specs::Udp::is_short, porthdr::specs::Udp::udp, porthdr::specs::Tcp::is_short, porthdr::specs::Tcp::tcp, crate::specs::Rows::file_head, crate::specs::Rows::record_head, crate::specs::Rows::ethernet_addresses, crate::specs::Rows::ipv4_datagram, crate::specs::Rows::ipv4_fragment, crate::specs::Rows::ipv4_segment, crate::specs::Drill::verdict_of, crate::specs::Drill::whole_of, crate::specs::Scapconf::fates_from))]
+
 ghost use Rattle.std.specs.Prelude.{◌≡◌, [], ◌∷◌, take};
-ghost use Rattle.labtop.specs.Rows.{file_head, one_datagram, its_packet, said_ipv6};
+ghost use Rattle.capfilter.specs.declared.prim.Primitive.TheVariants.{Tcp, Udp};
+ghost use Rattle.labtop.specs.Rows.{file_head, one_datagram, one_segment, mixed, late, begins_skipped, packet_at, filtered_by};
 ghost use Rattle.labtop.specs.Drill.{verdict_of, Delivers, Refused, NotBuilt};
-ghost use Rattle.labtop.specs.Settings.{default_marks, terms_of};
+ghost use Rattle.labtop.specs.Settings.{default_marks, plan_with};
 
 use pcapfile::HeadFault;
 
 /// A capture of one datagram is delivered.
 pub fn one_datagram_is_delivered()
-    ensures { verdict_of one_datagram ≡ Delivers (its_packet ∷ []) }
+    ensures { verdict_of (plan_with default_marks) one_datagram ≡ Delivers (record {
+      packets = packet_at 1 1000005000 ∷ [];
+      counts = record { accepted = 1; filtered = 0; other = 0; fragment = 0; short = 0 };
+      first = 1000005000;
+      last = 1000005000;
+    }) }
 {}
 
-/// A record that is skipped isn't built yet: what is said to be IPv6, and has the version 4, is short.
-pub fn a_skipped_record_is_not_built()
-    ensures { verdict_of said_ipv6 ≡ NotBuilt }
+/// Skipped records are counted by their kind; they have numbers, and their moments count for the clock.
+pub fn skipped_records_are_counted()
+    ensures { verdict_of (plan_with default_marks) mixed ≡ Delivers (record {
+      packets = packet_at 1 1000005000 ∷ packet_at 4 9000005000 ∷ [];
+      counts = record { accepted = 2; filtered = 0; other = 1; fragment = 1; short = 1 };
+      first = 1000005000;
+      last = 9000005000;
+    }) }
+{}
+
+/// A packet that the filter refuses is filtered, and what has no packet is not asked.
+pub fn packets_are_filtered()
+    ensures none { verdict_of (filtered_by Tcp) mixed ≡ Delivers (record {
+      packets = [];
+      counts = record { accepted = 0; filtered = 2; other = 1; fragment = 1; short = 1 };
+      first = 1000005000;
+      last = 9000005000;
+    }) }
+    ensures all { verdict_of (filtered_by Udp) mixed ≡ verdict_of (plan_with default_marks) mixed }
+{}
+
+/// A segment of TCP is not built yet, but where it is filtered.
+pub fn a_segment_is_not_built()
+    ensures taken { verdict_of (plan_with default_marks) one_segment ≡ NotBuilt }
+    ensures filtered { verdict_of (filtered_by Udp) one_segment ≡ Delivers (record {
+      packets = [];
+      counts = record { accepted = 0; filtered = 1; other = 0; fragment = 0; short = 0 };
+      first = 1000005000;
+      last = 1000005000;
+    }) }
+{}
+
+/// A skipped record can be the one that is too late, or the one from which the idle time counts.
+pub fn skipped_records_have_moments()
+    ensures late { verdict_of (plan_with default_marks) (late 301) ≡ NotBuilt }
+    ensures in_time { verdict_of (plan_with default_marks) (late 300) ≡ Delivers (record {
+      packets = packet_at 1 1000005000 ∷ [];
+      counts = record { accepted = 1; filtered = 0; other = 1; fragment = 0; short = 0 };
+      first = 1000005000;
+      last = 300000005000;
+    }) }
+    ensures early { verdict_of (plan_with default_marks) (begins_skipped 301) ≡ NotBuilt }
 {}
 
 /// A capture without a record is delivered.
 pub fn an_empty_capture_is_delivered()
-    ensures { verdict_of file_head ≡ Delivers [] }
+    ensures { verdict_of (plan_with default_marks) file_head ≡ Delivers (record {
+      packets = [];
+      counts = record { accepted = 0; filtered = 0; other = 0; fragment = 0; short = 0 };
+      first = 0;
+      last = 0;
+    }) }
 {}
 
 /// A front of a file header is short.
 pub fn a_short_file_is_refused()
-    ensures { verdict_of (take 10 file_head) ≡ Refused HeadFault.Short }
+    ensures { verdict_of (plan_with default_marks) (take 10 file_head) ≡ Refused HeadFault.Short }
 {}
 
-/// A drill that is given no settings has a budget of 64 MiB, of which half may be filled before priorities count, chunks of 16 KiB, and an idle time of 300 s.
+/// A drill that is given no settings has a budget of 64 MiB, of which half may be filled before priorities count, chunks of 16 KiB, an idle time of 300 s, and no filter.
 pub fn settings_by_default()
-    ensures limit { (terms_of default_marks).marks.limit ≡ 67108864 }
-    ensures base { (terms_of default_marks).marks.base ≡ 33554432 }
-    ensures priorities { (terms_of default_marks).marks.priorities ≡ 1 }
-    ensures chunk { (terms_of default_marks).chunk ≡ 16384 }
-    ensures idle { (terms_of default_marks).idle ≡ 300000000000 }
+    ensures limit { (plan_with default_marks).terms.marks.limit ≡ 67108864 }
+    ensures base { (plan_with default_marks).terms.marks.base ≡ 33554432 }
+    ensures priorities { (plan_with default_marks).terms.marks.priorities ≡ 1 }
+    ensures chunk { (plan_with default_marks).terms.chunk ≡ 16384 }
+    ensures idle { (plan_with default_marks).terms.idle ≡ 300000000000 }
+    ensures filter { (plan_with default_marks).filter ≡ None }
 {}

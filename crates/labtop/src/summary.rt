@@ -5,6 +5,7 @@ ghost use Rattle.histbook.specs.Runs.{HasShortRuns};
 ghost use Rattle.labtop.specs.Headline.{done};
 ghost use Rattle.labtop.specs.ReportLines.{lines_of, lines_with};
 ghost use Rattle.streamdefs.specs.Lists.{Each, total};
+ghost use Rattle.streamdefs.specs.Report.{records_of};
 
 use crate::Memory;
 use crate::counts::RecordCounts;
@@ -27,26 +28,24 @@ fn put_conversations(out: &mut Vec<u8>, conversations: &[Conversation]) -> Resul
     Ok(())
 }
 
-/// The report of a replay of so many accepted records.
-pub(crate) fn report(alloc: Global, accepted: u64, whole: &WholeReplay) -> Result<Vec<u8>, Memory>
+/// The report of a replay, with the counts of the capture's records.
+pub(crate) fn report(
+    alloc: Global,
+    counts: &RecordCounts,
+    whole: &WholeReplay,
+) -> Result<Vec<u8>, Memory>
+    requires few { records_of counts.now < 2 ^ 64 }
     requires even { Each IsEven whole.now.table }
     requires came { total came_bytes whole.now.table < 2 ^ 64 }
     requires short { All HasShortRuns whole.now.journal.workers }
-    ensures { IfOk result (λ text. text.items ≡ lines_with whole.now.journal whole.now.table (record { accepted = accepted; filtered = 0; other = 0; fragment = 0; short = 0 }) whole.now.stamps whole.now.peak whole.now.refused done) }
+    ensures { IfOk result (λ text. text.items ≡ lines_with whole.now.journal whole.now.table counts.now whole.now.stamps whole.now.peak whole.now.refused done) }
 {
     let table = whole.table.as_slice();
-    let counts = RecordCounts {
-        accepted,
-        filtered: 0,
-        other: 0,
-        fragment: 0,
-        short: 0,
-    };
     let mut out = Vec::new(alloc);
     put_head_lines(&mut out, 1, 1)?;
     put_journal(&whole.journal, &mut out)?;
     put_conversations(&mut out, table)?;
-    put_records_line(&mut out, &counts)?;
+    put_records_line(&mut out, counts)?;
     put_bytes_line(&mut out, &sum_up(table))?;
     put_budget_line(&mut out, whole.stamps, whole.peak, whole.refused)?;
     put_status_line(&mut out, 0)?;

@@ -1,0 +1,59 @@
+// What becomes of one record.
+ghost use Rattle.std.specs.Prelude.{◌≡◌, ◌<◌, ◌^◌, true, length, MatchOption};
+ghost use Rattle.labtop.specs.Found.{IsFound};
+ghost use Rattle.labtop.specs.Scapconf.{fate_of, has_segment, packet_in};
+ghost use Rattle.porthdr.specs.Transport.{kind_of};
+
+use crate::setup::Setup;
+use datagrams::Datagram;
+use linkip::network;
+use pcapfile::{Frame, Link};
+use porthdr::{Seen, Skip, transport};
+use streamkey::Proto;
+
+/// What becomes of a record: its datagram is taken, the filter refuses its packet, or it has none.
+#[derive(Clone, Copy)]
+pub(crate) enum Found<'a> {
+    Taken(Datagram<'a>),
+    Filtered,
+    Passed(Skip),
+}
+
+/// What becomes of a record with that number and clock, but for a segment of TCP, which is not built yet.
+pub(crate) fn found_in<'a>(
+    setup: &Setup,
+    number: u32,
+    clock: u64,
+    link: Link,
+    frame: &'a Frame,
+) -> Option<Found<'a>>
+    requires { length frame.now.bytes < 2 ^ 32 }
+    ensures { MatchOption result (has_segment (packet_in (fate_of setup.now.filter number clock (kind_of link frame.now.bytes))) ≡ true)
+        (λ found. IsFound found (fate_of setup.now.filter number clock (kind_of link frame.now.bytes))) }
+{
+    match transport(network(link, frame.bytes.as_slice())) {
+        Seen::Accepted {
+            key,
+            toward,
+            declared,
+            payload,
+            ..
+        } => {
+            if !setup.takes(&key, toward) {
+                return Some(Found::Filtered);
+            }
+            match key.proto {
+                Proto::Udp => Some(Found::Taken(Datagram {
+                    number,
+                    clock,
+                    key,
+                    toward,
+                    declared,
+                    payload,
+                })),
+                Proto::Tcp => None,
+            }
+        }
+        Seen::Skipped(skip) => Some(Found::Passed(skip)),
+    }
+}
