@@ -1,1 +1,9 @@
 pub mod TextLemmas
+pub mod SplitLemmas
+pub mod NumberLemmas
+pub mod WordLemmas
+pub mod ReadLemmas
+pub mod HeadLemmas
+pub mod StepLemmas
+pub mod LineLemmas
+pub mod ParseLemmas

@@ -2,3 +2,10 @@ pub mod Front
 pub mod StatusText
 pub mod Defaults
 pub mod Causes
+pub mod Lines
+pub mod Numbers
+pub mod Names
+pub mod Values
+pub mod Faults
+pub mod Says
+pub mod Parser

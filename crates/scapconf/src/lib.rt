@@ -4,15 +4,29 @@
 //! pcapfile (why a file is no capture) and itoa.
 #![tactic(auto)]
 
+mod key;
+mod line;
+mod line_error;
 mod memory;
+mod name;
+mod number;
+mod parse;
+mod place;
 mod put;
+mod read;
+mod reader;
 pub mod rows;
+mod setting;
 mod settings;
 mod settings_error;
+mod size;
 mod status;
 mod status_text;
 #[cfg(test)]
 mod tests;
+mod time;
+mod value;
+mod word;
 
 pub use memory::Memory;
 pub use settings::Settings;
