@@ -7,3 +7,4 @@ pub mod HeadLemmas
 pub mod StepLemmas
 pub mod LineLemmas
 pub mod ParseLemmas
+pub mod LawLemmas

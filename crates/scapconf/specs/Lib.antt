@@ -9,3 +9,4 @@ pub mod Values
 pub mod Faults
 pub mod Says
 pub mod Parser
+pub mod Laws

@@ -1,4 +1,6 @@
-ghost use Rattle.std.specs.Prelude.{IfOk, IfErr, ℕ};
+ghost use Rattle.std.specs.Prelude.{◌≡◌, IfOk, IfErr, IsErrAnd, MatchResult, ℕ};
+ghost use Rattle.scapconf.specs.declared.settings.Settings.{Settings};
+ghost use Rattle.scapconf.specs.declared.settings_error.SettingsKind.{SettingsKind};
 ghost use Rattle.scapconf.specs.Faults.{IsFault};
 ghost use Rattle.scapconf.specs.Parser.{IsMemoryOrFault};
 ghost use Rattle.scapconf.specs.Says.{Reads};
@@ -14,6 +16,17 @@ const LONGEST_TEXT: usize = 65_536;
 impl Settings {
     /// The settings that a text says (docs/FORMATS.md, "Settings"), or its first fault.
     pub fn parse(alloc: Global, text: &[u8]) -> Result<Settings, SettingsError>
+        ensures parsed { IfOk result (Reads text.now) }
+        // What is without fault is refused only for want of memory.
+        ensures only { (s : Settings) → Reads text.now s → MatchResult result (λ settings. settings ≡ s) (λ error. error ≡ SettingsError.Memory) }
+        ensures refused { IfErr result (IsMemoryOrFault (IsFault text.now)) }
+        // What has a fault is not read, and no other fault is told.
+        ensures least { (line : ℕ) (kind : SettingsKind) → IsFault text.now line kind → IsErrAnd result (IsMemoryOrFault (λ l k. (l ≡ line) × (k ≡ kind))) }
+    {
+        Settings::read(alloc, text)
+    }
+
+    fn read(alloc: Global, text: &[u8]) -> Result<Settings, SettingsError>
         ensures parsed { IfOk result (Reads text.now) }
         ensures refused { IfErr result (IsMemoryOrFault (IsFault text.now)) }
     {

@@ -3,7 +3,7 @@ use Rattle.std.specs.Str.Lines.{lines}
 use Rattle.scapconf.specs.Lines.{said}
 use Rattle.scapconf.specs.Faults.{AreClean}
 use Rattle.scapconf.specs.Parser.{Stands}
-use Rattle.scapconf.proofs.settings.Settings.parse.Given as goal
+use Rattle.scapconf.proofs.settings.Settings.read.Given as goal
 
 -- the lines so far have no fault, and the reader stands for them
 abbrev pub invariant-loop-line : goal.invariant-loop-line
