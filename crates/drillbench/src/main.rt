@@ -3,7 +3,8 @@
 //! Stands on labtop (the drill), prio_budget (the marks) and scap_world (real files).
 #![tactic(auto)]
 
-use labtop::{Memory, Status, drill_run};
+use labtop::drill_run;
+use scapconf::{Memory, Status};
 use prio_budget::Marks;
 use scap_world::FileShelf;
 use std::alloc::Global;

@@ -1,5 +1,6 @@
 use crate::captures::{WORDS, opened, put_record, shelf_with};
-use labtop::{Status, drill_run, lab_top};
+use labtop::{drill_run, lab_top};
+use scapconf::Status;
 use prio_budget::Marks;
 use scap_world::MemShelf;
 use std::alloc::Global;

@@ -4,7 +4,8 @@ use crate::captures::{
     BIG, DELIVERY, ONE, REPORT, REPORT_OF_NANOSECONDS, WORDS, changed, expect_files, opened,
     put_record, shelf_with,
 };
-use labtop::{Status, lab_top};
+use labtop::lab_top;
+use scapconf::Status;
 use pcapfile::put_frame;
 use scap_world::{MemShelf, Memory};
 use std::alloc::{AllocError, Global};

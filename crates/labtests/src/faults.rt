@@ -1,5 +1,6 @@
 use crate::captures::{DELIVERY, ONE, REPORT, WORDS, expect_files, shelf_with};
-use labtop::{Status, lab_top};
+use labtop::lab_top;
+use scapconf::Status;
 use scap_world::{FailCall, MemShelf, Memory};
 use std::alloc::Global;
 use std::test::Fail;

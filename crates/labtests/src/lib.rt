@@ -16,4 +16,3 @@ mod refusals;
 #[cfg(test)]
 mod skipped;
 #[cfg(test)]
-mod statuses;

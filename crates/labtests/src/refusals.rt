@@ -1,5 +1,6 @@
 use crate::captures::{ONE, WORDS, changed, expect_files, opened, put_record, shelf_with};
-use labtop::{Status, lab_top};
+use labtop::lab_top;
+use scapconf::Status;
 use pcapfile::{HeadFault, put_frame};
 use std::alloc::Global;
 use std::test::Fail;

@@ -3,7 +3,8 @@ ghost use Rattle.std.specs.Prelude.{◌<◌, length};
 use crate::captures::{
     BIG, DELIVERY, ONE, WORDS, changed, expect_files, opened, put_record, shelf_with,
 };
-use labtop::{Status, lab_top};
+use labtop::lab_top;
+use scapconf::Status;
 use pcapfile::put_frame;
 use std::alloc::Global;
 use std::process::Abort;

@@ -3,8 +3,8 @@ use Rattle.std.specs.Prelude.{Option, Some, None, IfSome, Result, Ok, Err}
 use Rattle.streamdefs.specs.Terms.{Terms}
 use Rattle.scap_world.specs.Files.{File, told_file, told_put}
 use Rattle.labtop.specs.declared.outcome.Outcome.{Outcome}
-use Rattle.labtop.specs.declared.status.Status.{Status}
-use Rattle.labtop.specs.declared.status.Status.TheVariants.{Done, Memory, Usage, ReadFault, WriteFault, NotPcap, Unbuilt}
+use Rattle.scapconf.specs.declared.status.Status.{Status}
+use Rattle.scapconf.specs.declared.status.Status.TheVariants.{Done, Memory, Usage, Settings, ReadFault, WriteFault, NotPcap, BadRecord, CutShort, TooLong, Unbuilt}
 use Rattle.labtop.specs.Names.{delivery_name, report_name}
 use Rattle.labtop.specs.Drill.{Verdict, Delivers, Refused, NotBuilt, verdict_of}
 use Rattle.labtop.specs.Gives.{Gives}
@@ -40,6 +40,10 @@ refused_by t Memory v h = (tt, memory v)
     memory (Refused fault) = tt
     memory NotBuilt = tt
 refused_by t Usage v h = absurd h
+refused_by t (Settings line kind) v h = absurd h
+refused_by t (BadRecord at len) v h = absurd h
+refused_by t (CutShort bytes) v h = absurd h
+refused_by t TooLong v h = absurd h
 refused_by t ReadFault v h = absurd h
 refused_by t WriteFault v h = absurd h
 refused_by t (NotPcap kind) (Delivers c) h = absurd h

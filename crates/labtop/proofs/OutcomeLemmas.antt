@@ -29,7 +29,7 @@ use Rattle.streamdefs.specs.Terms.{Terms}
 use Rattle.streamdefs.specs.Totals.{peak, refused}
 use Rattle.labtop.specs.declared.intake.Intake.{Intake}
 use Rattle.labtop.specs.declared.outcome.Outcome.{Outcome}
-use Rattle.labtop.specs.declared.status.Status.{Status}
+use Rattle.scapconf.specs.declared.status.Status.{Status}
 use Rattle.labtop.specs.Drill.{Delivers, NotBuilt, is_long, of_captured}
 use Rattle.labtop.specs.Found.{captured_by}
 use Rattle.labtop.specs.Gives.{Gives, HasTexts}

@@ -11,7 +11,7 @@ use Rattle.pcapfile.specs.Capture.{records_from, behind_head}
 use Rattle.pcapfile.specs.Head.{head_of}
 use Rattle.labtop.specs.declared.capture.TheConstants.{MOST_BUILT}
 use Rattle.labtop.specs.declared.outcome.Outcome.{Outcome}
-use Rattle.labtop.specs.declared.status.Status.{Status}
+use Rattle.scapconf.specs.declared.status.Status.{Status}
 use Rattle.labtop.specs.Drill.{Verdict, Refused, NotBuilt, limits, of_capture, of_frames, whole_of, verdict_of}
 use Rattle.labtop.specs.Gives.{Gives}
 use Rattle.labtop.specs.Settings.{Plan}

@@ -1,7 +1,7 @@
 use Rattle.std.specs.Prelude.{ℕ, ◌≡◌, ◌⊎◌, List, take, Option, Some}
 use Rattle.scap_world.specs.Files.{File, told_file, told_put}
-use Rattle.labtop.specs.declared.status.Status.{Status}
-use Rattle.labtop.specs.declared.status.Status.TheVariants.{Done, Memory, Usage, ReadFault, WriteFault, NotPcap, Unbuilt}
+use Rattle.scapconf.specs.declared.status.Status.{Status}
+use Rattle.scapconf.specs.declared.status.Status.TheVariants.{Done, Memory, Usage, Settings, ReadFault, WriteFault, NotPcap, BadRecord, CutShort, TooLong, Unbuilt}
 use Rattle.histbook.specs.declared.journal.Journal.{Journal}
 use Rattle.streamdefs.specs.Terms.{Terms}
 use Rattle.labtop.specs.Headline.{IsRun, delivery_for, report_for}
@@ -16,6 +16,10 @@ abbrev pub Allows : Verdict → Status → Type 0
 Allows verdict Memory = Unit {0}
 Allows verdict ReadFault = Unit {0}
 Allows verdict Usage = ⊥
+Allows verdict (Settings line kind) = ⊥
+Allows verdict (BadRecord at len) = ⊥
+Allows verdict (CutShort bytes) = ⊥
+Allows verdict TooLong = ⊥
 Allows (Delivers c) Done = Unit {0}
 Allows (Delivers c) WriteFault = Unit {0}
 Allows (Delivers c) (NotPcap kind) = ⊥
@@ -35,6 +39,10 @@ AllowsUnread Memory = Unit {0}
 AllowsUnread ReadFault = Unit {0}
 AllowsUnread Done = ⊥
 AllowsUnread Usage = ⊥
+AllowsUnread (Settings line kind) = ⊥
+AllowsUnread (BadRecord at len) = ⊥
+AllowsUnread (CutShort bytes) = ⊥
+AllowsUnread TooLong = ⊥
 AllowsUnread WriteFault = ⊥
 AllowsUnread (NotPcap kind) = ⊥
 AllowsUnread Unbuilt = ⊥
@@ -69,9 +77,13 @@ IsBefore Done = ⊥
 IsBefore Memory = ⊥
 IsBefore WriteFault = ⊥
 IsBefore Usage = Unit {0}
+IsBefore (Settings line kind) = Unit {0}
 IsBefore ReadFault = Unit {0}
 IsBefore (NotPcap kind) = Unit {0}
 IsBefore Unbuilt = Unit {0}
+IsBefore (BadRecord at len) = ⊥
+IsBefore (CutShort bytes) = ⊥
+IsBefore TooLong = ⊥
 
 -- where packets are delivered and no fault was counted, the run is done, or there was no memory
 abbrev pub Completes : Verdict → Status → Type 0

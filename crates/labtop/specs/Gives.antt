@@ -1,7 +1,7 @@
 use Rattle.std.specs.Prelude.{◌≡◌, Result, Ok, Err}
 use Rattle.labtop.specs.declared.outcome.Outcome.{Outcome}
-use Rattle.labtop.specs.declared.status.Status.{Status}
-use Rattle.labtop.specs.declared.status.Status.TheVariants.{Done, Memory, Usage, ReadFault, WriteFault, NotPcap, Unbuilt}
+use Rattle.scapconf.specs.declared.status.Status.{Status}
+use Rattle.scapconf.specs.declared.status.Status.TheVariants.{Done, Memory, Usage, Settings, ReadFault, WriteFault, NotPcap, BadRecord, CutShort, TooLong, Unbuilt}
 use Rattle.streamdefs.specs.Terms.{Terms}
 use Rattle.labtop.specs.Headline.{IsRun, delivery_for, report_for}
 use Rattle.labtop.specs.Scapconf.{Captured}
@@ -19,6 +19,10 @@ Gives terms (Ok o) NotBuilt = ⊥
 Gives terms (Err Memory) verdict = Unit {0}
 Gives terms (Err Done) verdict = ⊥
 Gives terms (Err Usage) verdict = ⊥
+Gives terms (Err (Settings line kind)) verdict = ⊥
+Gives terms (Err (BadRecord at len)) verdict = ⊥
+Gives terms (Err (CutShort bytes)) verdict = ⊥
+Gives terms (Err TooLong) verdict = ⊥
 Gives terms (Err ReadFault) verdict = ⊥
 Gives terms (Err WriteFault) verdict = ⊥
 Gives terms (Err (NotPcap kind)) (Delivers c) = ⊥

@@ -5,7 +5,6 @@ pub mod Headline
 pub mod Drill
 pub mod Names
 pub mod Words
-pub mod StatusText
 pub mod Causes
 pub mod Answers
 pub mod Gives

@@ -5,7 +5,7 @@ ghost use Rattle.pcapfile.specs.Capture.{records_from};
 ghost use Rattle.pcapfile.specs.Head.{head_of};
 ghost use Rattle.labtop.specs.Drill.{limits, whole_of};
 
-use crate::Memory;
+use crate::memory::Memory;
 use pcapfile::{FileHead, Frame, Frames, Next, Tail};
 use std::alloc::Global;
 

@@ -8,7 +8,7 @@ ghost use Rattle.labtop.specs.Answers.{IsPart};
 ghost use Rattle.labtop.specs.Drill.{verdict_of};
 ghost use Rattle.labtop.specs.Settings.{Plan};
 
-use crate::Status;
+use scapconf::Status;
 use crate::capture::MOST_BUILT;
 use scap_world::{Shelf, Sink, Source, WorldFault, write_whole};
 use std::alloc::{AllocError, Global};

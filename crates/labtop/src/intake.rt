@@ -5,7 +5,7 @@ ghost use Rattle.labtop.specs.Found.{captured_by};
 ghost use Rattle.labtop.specs.Scapconf.{captured, first_moment, has_segment};
 ghost use Rattle.streamdefs.specs.Report.{records_of};
 
-use crate::Memory;
+use crate::memory::Memory;
 use crate::counts::RecordCounts;
 use crate::found::{Found, found_in};
 use crate::setup::Setup;

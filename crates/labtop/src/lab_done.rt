@@ -1,7 +1,7 @@
 ghost use Rattle.std.specs.Prelude.{◌≡◌};
 ghost use Rattle.labtop.specs.Headline.{IsEmpty};
 
-use crate::Status;
+use scapconf::Status;
 use histbook::{Books, Journal, Served};
 use std::alloc::Global;
 

@@ -19,7 +19,6 @@ mod put;
 mod report;
 pub mod rows;
 mod setup;
-mod status;
 mod summary;
 mod top;
 mod totals;
@@ -27,6 +26,4 @@ mod words;
 
 pub use drill::drill_run;
 pub use lab_done::LabDone;
-pub use memory::Memory;
-pub use status::Status;
 pub use top::lab_top;

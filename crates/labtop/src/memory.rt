@@ -1,10 +1,12 @@
 ghost use Rattle.std.specs.Prelude.{◌≡◌};
+ghost use Rattle.scapconf.specs.declared.status.Status.TheVariants.{Memory as OutOfMemory};
 
+use scapconf::Status;
 use std::alloc::{AllocError, AllocFailed};
 
 /// Want of memory.
 #[derive(Clone, Copy, Debug, PartialEq, Eq)]
-pub struct Memory;
+pub(crate) struct Memory;
 
 impl From<AllocError> for Memory {
     fn from(_: AllocError) -> Self {
@@ -33,5 +35,13 @@ impl From<histbook::Memory> for Memory {
 impl From<datagrams::Memory> for Memory {
     fn from(_: datagrams::Memory) -> Self {
         Memory
+    }
+}
+
+impl From<Memory> for Status {
+    ghost from_gives = { λ _ status. status ≡ OutOfMemory };
+
+    fn from(_: Memory) -> Self {
+        Status::Memory
     }
 }

@@ -3,7 +3,7 @@ ghost use Rattle.std.specs.Prelude.{◌≡◌, ◌++◌, OnOk, OnErr};
 ghost use Rattle.std.specs.Fmt.{decimal};
 ghost use Rattle.streamdefs.specs.Handler.{spaced};
 
-use crate::Memory;
+use crate::memory::Memory;
 use itoa::Buffer;
 
 pub(crate) fn put_text(out: &mut Vec<u8>, text: &str) -> Result<(), Memory>

@@ -11,7 +11,8 @@ ghost use Rattle.labtop.specs.Words.{command_of, outputs_of, texts, Drill, Wrong
 use crate::drill::drill_run;
 use crate::setup::default_marks;
 use crate::words::{Asked, asked_in};
-use crate::{LabDone, Status};
+use crate::LabDone;
+use scapconf::Status;
 use scap_world::Shelf;
 use std::alloc::Global;
 

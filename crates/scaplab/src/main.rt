@@ -3,7 +3,8 @@
 //! Stands on labtop (the commands) and scap_world (real files).
 #![tactic(auto)]
 
-use labtop::{Memory, Status, lab_top};
+use labtop::lab_top;
+use scapconf::{Memory, Status};
 use scap_world::FileShelf;
 use std::alloc::Global;
 use std::fs::File;

@@ -1,5 +1,5 @@
 use Rattle.std.proofs.Common.{ap, refl, inl, inr}
-use Rattle.labtop.specs.declared.status.Status.TheVariants.{Done}
+use Rattle.scapconf.specs.declared.status.Status.TheVariants.{Done}
 use Rattle.labtop.specs.Settings.{plan_of, plan_with}
 use Rattle.labtop.proofs.DrillLemmas.{all_done, allowed, complete_refused, has_read, parts_left, written}
 use Rattle.labtop.proofs.drill.drill_run.Goals as goal

@@ -3,7 +3,7 @@ use Rattle.std.proofs.lemmas.Bool.Decides.{nat_tests}
 use Rattle.labtop.specs.declared.capture.TheConstants.{MOST_BUILT}
 use Rattle.std.specs.Prelude.{Some, None, Err}
 use Rattle.std.proofs.lemmas.List.{take_rest}
-use Rattle.labtop.specs.declared.status.Status.TheVariants.{Unbuilt}
+use Rattle.scapconf.specs.declared.status.Status.TheVariants.{Unbuilt}
 use Rattle.labtop.specs.Drill.{NotBuilt}
 use Rattle.labtop.specs.Settings.{plan_of}
 use Rattle.labtop.proofs.VerdictLemmas.{verdict_of_frames, gives_at}
