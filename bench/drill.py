@@ -1,6 +1,6 @@
 #!/usr/bin/env python3
-"""Measures drills on captures that make_udp.py makes, and checks both output files against model.py: `scaplab drill`, whose
-budget holds any capture, and `drillbench` with a budget that sheds.
+"""Measures `scaplab drill` on captures that make_udp.py makes, by the settings that nothing is said of and by some that shed and
+filter, and checks both output files against model.py.
 
 Time is the best of the runs, from the start of the program to its end. Peak memory is the largest resident size of
 one more run, by /usr/bin/time. The copy reads and writes the capture and both outputs once, in pieces of 64 KiB.
@@ -25,8 +25,6 @@ import model
 HERE = pathlib.Path(__file__).resolve().parent
 CRATES = HERE.parent / "crates"
 PROGRAM = CRATES / "scaplab" / "out" / "scaplab"
-WITH_BUDGET = CRATES / "drillbench" / "out" / "drillbench"
-BUDGET = 65_536
 TIME = "/usr/bin/time"
 DATAGRAMS = (1_000, 10_000, 100_000)
 KEYS = (1, 64, 10_000)
@@ -40,6 +38,9 @@ CHECKED = (
     (0, 1, 0), (1, 1, 0), (1, 1, 100), (2, 1, 3), (2, 2, 3),
     (1_000, 1, 1), (1_000, 64, 100), (1_000, 1_000, 100), (10_000, 64, 300),
 )
+# Settings of the tables, and those of checks alone: small chunks under a small budget, and the packets of one port.
+MEASURED = (model.Settings(), model.Settings(limit=65_536))
+ONLY_CHECKED = (model.Settings(limit=4_096, chunk=256), model.Settings(chunk=1), model.Settings(port=53))
 COLUMNS = (
     "datagrams", "keys", "capture B", "output B", "seconds", "us/datagram",
     "peak KiB", "peak B/datagram", "x copy", "equal",
@@ -61,6 +62,10 @@ class Files:
         return self.folder / "out"
 
     @property
+    def settings(self):
+        return self.folder / "settings"
+
+    @property
     def outputs(self):
         return [self.folder / "out.0", self.folder / "out.report"]
 
@@ -77,13 +82,25 @@ def run_checked(words):
 
 @dataclass
 class Drill:
-    """A program with its first words, and the budget that it has."""
+    """The program, and the settings that it is given; none where they are the defaults."""
 
-    words: list
-    limit: int
+    program: str
+    settings: model.Settings
+
+    @property
+    def name(self):
+        return self.settings.text.strip().replace("\n", ", ") if self.has_settings else "no settings"
+
+    @property
+    def has_settings(self):
+        return self.settings != model.Settings()
 
     def on(self, files):
-        return [*self.words, str(files.capture), str(files.out)]
+        options = []
+        if self.has_settings:
+            files.settings.write_text(self.settings.text, encoding="ascii")
+            options = ["--settings", str(files.settings)]
+        return [self.program, "drill", *options, str(files.capture), str(files.out)]
 
 
 def seconds_of(action):
@@ -120,7 +137,7 @@ def copy_all(files):
 
 
 def is_as_modelled(drill, files):
-    texts = model.files_of(files.capture.read_bytes(), drill.limit)
+    texts = model.files_of(files.capture.read_bytes(), drill.settings)
     return all(path.read_bytes() == text for path, text in zip(files.outputs, texts))
 
 
@@ -147,7 +164,7 @@ def print_row(cells):
 
 def print_table(drill, files):
     """Answers whether all files are the model's."""
-    print(f"budget of {drill.limit} bytes\n", flush=True)
+    print(f"{drill.name}\n", flush=True)
     print_row(COLUMNS)
     print_row(["--:"] * len(COLUMNS))
     equal = True
@@ -166,23 +183,22 @@ def check(drill, files, datagrams, keys, longest):
     run_checked(drill.on(files))
     equal = is_as_modelled(drill, files)
     if not equal:
-        print(f"differs: budget of {drill.limit} bytes, make_udp.py {datagrams} {keys} {longest} {SEED} OUTPUT --mixed")
+        print(f"differs: {drill.name}; make_udp.py {datagrams} {keys} {longest} {SEED} OUTPUT --mixed")
     return equal
 
 
 def print_checks(drill, files):
     """Answers whether all files are the model's."""
     equal = [check(drill, files, *shape) for shape in CHECKED]
-    print(f"budget of {drill.limit} bytes, payloads of mixed lengths and skipped records: {sum(equal)} of {len(equal)} captures equal")
+    print(f"{drill.name}: payloads of mixed lengths and skipped records: {sum(equal)} of {len(equal)} captures equal")
     return all(equal)
 
 
 def parse_words():
     parser = argparse.ArgumentParser(description=__doc__, formatter_class=argparse.RawDescriptionHelpFormatter)
     parser.add_argument("program", nargs="?", type=pathlib.Path, default=PROGRAM, help="the built scaplab")
-    parser.add_argument("with_budget", nargs="?", type=pathlib.Path, default=WITH_BUDGET, help="the built drillbench")
     words = parser.parse_args()
-    for needed in (words.program, words.with_budget, pathlib.Path(TIME)):
+    for needed in (words.program, pathlib.Path(TIME)):
         if not os.access(needed, os.X_OK):
             parser.error(f"{needed} can't be run")
     return words
@@ -190,13 +206,14 @@ def parse_words():
 
 def main():
     words = parse_words()
-    program, with_budget = str(words.program.resolve()), str(words.with_budget.resolve())
-    drills = (Drill([program, "drill"], model.LIMIT), Drill([with_budget, str(BUDGET)], BUDGET))
+    program = str(words.program.resolve())
+    measured = [Drill(program, settings) for settings in MEASURED]
+    checked = [Drill(program, settings) for settings in (*MEASURED, *ONLY_CHECKED)]
     with tempfile.TemporaryDirectory() as folder:
         files = Files(pathlib.Path(folder))
         print(f"start alone: {start_seconds(program):.4f} seconds\n", flush=True)
-        equal = all([print_table(drill, files) for drill in drills])
-        equal = all([print_checks(drill, files) for drill in drills]) and equal
+        equal = all([print_table(drill, files) for drill in measured])
+        equal = all([print_checks(drill, files) for drill in checked]) and equal
     print("every file is the model's" if equal else "a file differs from the model's")
     sys.exit(0 if equal else 1)
 

@@ -6,6 +6,7 @@ TCP are a ValueError; the idle time is not looked at.
 """
 
 import argparse
+from dataclasses import dataclass
 import struct
 
 CHUNK = 16_384
@@ -98,10 +99,31 @@ def datagram(frame):
     return source, target, body[8:size]
 
 
+@dataclass
+class Settings:
+    """The bytes of a budget that any priority may fill, the size of a chunk, and the port of the packets that are taken."""
+
+    limit: int = LIMIT
+    chunk: int = CHUNK
+    port: int | None = None
+
+    def accepts(self, source, target):
+        return self.port is None or any(end.split()[1] == str(self.port) for end in (source, target))
+
+    @property
+    def text(self):
+        """As a file of settings says it."""
+        lines = [f"budget {self.limit} {self.limit} 1", f"chunk {self.chunk}"]
+        if self.port is not None:
+            lines.append(f"filter port {self.port}")
+        return "".join(f"{line}\n" for line in lines)
+
+
 class Half:
     """A direction: how many bytes came, the front, the open chunk, and the numbers of the report."""
 
-    def __init__(self):
+    def __init__(self, chunk):
+        self.chunk = chunk
         self.sent, self.front = 0, 0
         self.start, self.gap, self.parts = 0, 0, []
         self.delivered, self.shed, self.gaps, self.gap_bytes = 0, 0, 0, 0
@@ -124,7 +146,7 @@ class Half:
             self.start, self.gap = at, at - self.front
         self.parts.append(payload)
         self.front = self.sent
-        if self.open_bytes >= CHUNK:
+        if self.open_bytes >= self.chunk:
             closed.append(self.closed())
         return closed
 
@@ -142,25 +164,25 @@ class Half:
 
 
 class Conversation:
-    def __init__(self, number, source):
+    def __init__(self, number, source, chunk):
         self.number = number
         self.source = source
-        self.halves = {">": Half(), "<": Half()}
+        self.halves = {">": Half(chunk), "<": Half(chunk)}
 
     def way_from(self, source):
         return ">" if source == self.source else "<"
 
 
 class Replay:
-    """One core and one worker, under a budget that any priority may fill."""
+    """One core and one worker, by settings."""
 
-    def __init__(self, limit):
-        self.limit = limit
+    def __init__(self, settings):
+        self.settings = settings
         self.conversations = {}
         self.lines, self.entries = [], []
         self.waiting, self.answered = [], 0
         self.stamp, self.used, self.peak, self.refused = 0, 0, 0, 0
-        self.records, self.clock = 0, 0
+        self.records, self.clock, self.filtered = 0, 0, 0
         self.skipped = {"other": 0, "fragment": 0, "short": 0}
 
     def tell(self, number, line, charges=()):
@@ -182,7 +204,7 @@ class Replay:
 
     def look(self, size):
         """The word of a look for so many bytes, and whether they were granted."""
-        granted = self.used + size <= self.limit
+        granted = self.used + size <= self.settings.limit
         word = f" {'+' if granted else '-'}{size}@{self.stamp}:{self.used}"
         if granted:
             self.stamp, self.used = self.stamp + 1, self.used + size
@@ -199,7 +221,7 @@ class Replay:
     def conversation_of(self, source, target):
         key = frozenset((source, target))
         if key not in self.conversations:
-            self.conversations[key] = Conversation(self.records, source)
+            self.conversations[key] = Conversation(self.records, source, self.settings.chunk)
             self.tell(self.records, f"new {self.records} udp {source} {target}\n")
         return self.conversations[key]
 
@@ -212,6 +234,9 @@ class Replay:
             self.skipped[skipped.args[0]] += 1
 
     def take_datagram(self, source, target, payload):
+        if not self.settings.accepts(source, target):
+            self.filtered += 1
+            return
         self.answer(0)
         conversation = self.conversation_of(source, target)
         way = conversation.way_from(source)
@@ -237,8 +262,8 @@ class Replay:
         self.answer(0)
 
 
-def replay_of(capture, limit):
-    replay = Replay(limit)
+def replay_of(capture, settings):
+    replay = Replay(settings)
     for moment, frame in frames(capture):
         replay.take(moment, frame)
     replay.end()
@@ -257,17 +282,17 @@ def report_lines(replay):
             yield f"dir {conversation.number} {way} {half.numbers()}\n"
             halves.append(half)
     payload, delivered, shed = (sum(getattr(half, name) for half in halves) for name in ("sent", "delivered", "shed"))
-    accepted = replay.records - sum(replay.skipped.values())
+    accepted = replay.records - replay.filtered - sum(replay.skipped.values())
     kinds = "".join(f" {kind} {count}" for kind, count in replay.skipped.items())
-    yield f"records {replay.records} accepted {accepted} filtered 0{kinds}\n"
+    yield f"records {replay.records} accepted {accepted} filtered {replay.filtered}{kinds}\n"
     yield f"bytes payload {payload} delivered {delivered} duplicate 0 late 0 cut 0 shed {shed}\n"
     yield f"budget stamps {replay.stamp} peak {replay.peak} refused {replay.refused}\n"
     yield "status 0\n"
 
 
-def files_of(capture, limit=LIMIT):
+def files_of(capture, settings):
     """The bytes of OUT.0 and of OUT.report."""
-    replay = replay_of(capture, limit)
+    replay = replay_of(capture, settings)
     return "".join(replay.lines).encode("ascii"), "".join(report_lines(replay)).encode("ascii")
 
 
@@ -276,9 +301,11 @@ def main():
     parser.add_argument("capture")
     parser.add_argument("out")
     parser.add_argument("--limit", type=int, default=LIMIT, help="bytes of the budget")
+    parser.add_argument("--chunk", type=int, default=CHUNK, help="bytes of a chunk")
+    parser.add_argument("--port", type=int, help="the port of the packets that are taken")
     words = parser.parse_args()
     with open(words.capture, "rb") as capture:
-        texts = files_of(capture.read(), words.limit)
+        texts = files_of(capture.read(), Settings(words.limit, words.chunk, words.port))
     for ending, text in zip((".0", ".report"), texts):
         with open(words.out + ending, "wb") as out:
             out.write(text)

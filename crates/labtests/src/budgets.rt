@@ -1,8 +1,8 @@
 use crate::captures::{WORDS, opened, put_record, shelf_with};
 use labtop::{drill_run, lab_top};
-use scapconf::Status;
 use prio_budget::Marks;
 use scap_world::MemShelf;
+use scapconf::{Settings, Status};
 use std::alloc::Global;
 use std::test::Fail;
 
@@ -36,7 +36,9 @@ fn a_small_budget_sheds_a_datagram(rt: HostRuntime) -> Result<(), Fail> {
     put_record(&mut capture, alloc, 0, (1, 5000), (2, 53), &BYTES)?;
     put_record(&mut capture, alloc, 0, (1, 5000), (2, 53), &BYTES[..1200])?;
     let mut shelf = shelf_with(alloc, &capture)?;
-    let done = drill_run(alloc, &Marks::new(4096, 4096, 1)?, "cap", "out", &mut shelf);
+    let mut settings = Settings::defaults(alloc)?;
+    settings.set.marks = Marks::new(4096, 4096, 1)?;
+    let done = drill_run(alloc, settings, "cap", "out", &mut shelf);
     assert_eq!(rt; done.status, Status::Done);
     let mut delivery = Vec::from_slice(alloc, b"new 1 udp 10.0.0.1 5000 10.0.0.2 53\n")?;
     put_line(&mut delivery, "data 1 > 0 0 0 0 ", 2800)?;

@@ -1,6 +1,7 @@
 //! Tests of the commands of one thread over files in memory: what no clause says, as that a run succeeds with ample memory.
 //! Promises nothing to a layer above.
-//! Stands on labtop, pcapfile (captures, the faults of a head), prio_budget (marks) and scap_world (the files).
+//! Stands on labtop, scapconf (statuses, settings), pcapfile (captures, the faults of a head), prio_budget (marks) and scap_world
+//! (the files).
 #![tactic(auto)]
 
 #[cfg(test)]
@@ -13,6 +14,8 @@ mod deliveries;
 mod faults;
 #[cfg(test)]
 mod refusals;
+#[cfg(test)]
+mod settings;
 #[cfg(test)]
 mod skipped;
 #[cfg(test)]

@@ -116,7 +116,7 @@ fn no_capture_creates_no_file(rt: HostRuntime) -> Result<(), Fail> {
 #[test]
 fn words_are_taken_as_they_are_said(rt: HostRuntime) -> Result<(), Fail> {
     let alloc = rt.alloc();
-    let cases: [(&[&str], Status); 17] = [
+    let cases: [(&[&str], Status); 16] = [
         (&[], Status::Usage),
         (&["scaplab"], Status::Usage),
         (&["scaplab", "drill"], Status::Usage),
@@ -129,17 +129,13 @@ fn words_are_taken_as_they_are_said(rt: HostRuntime) -> Result<(), Fail> {
         (&["scaplab", "drill", "cap", "-out"], Status::Usage),
         (&["scaplab", "drill", "out.0", "out"], Status::Usage),
         (&["scaplab", "drill", "out.report", "out"], Status::Usage),
-        (&["scaplab", "match"], Status::Unbuilt),
         (&["scaplab", "make", "1", "2", "cap"], Status::Unbuilt),
         (&["scaplab", "audit", "cap", "out"], Status::Unbuilt),
         (
             &["scaplab", "drill", "cap", "out", "--seed"],
             Status::Unbuilt,
         ),
-        (
-            &["scaplab", "drill", "--settings", "a", "cap", "out"],
-            Status::Unbuilt,
-        ),
+        (&["scaplab", "drill", "--cores"], Status::Unbuilt),
     ];
     for (words, status) in cases {
         let mut shelf = shelf_with(alloc, &ONE)?;

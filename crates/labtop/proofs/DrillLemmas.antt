@@ -1,15 +1,15 @@
-use Rattle.std.proofs.Common.{◌≡◌, ℕ, List, refl, ap, sym, ◌∙◌, subst, ◌⊎◌, inl, inr}
+use Rattle.std.proofs.Common.{◌≡◌, ℕ, List, refl, ap, sym, ◌∙◌, subst, ◌⊎◌, inl, inr, Bool, true, false, cond}
 use Rattle.std.specs.Prelude.{Option, Some, None, IfSome, Result, Ok, Err}
 use Rattle.streamdefs.specs.Terms.{Terms}
-use Rattle.scap_world.specs.Files.{File, told_file, told_put}
+use Rattle.scap_world.specs.Files.{File, file_of, told_file, told_put}
 use Rattle.labtop.specs.declared.outcome.Outcome.{Outcome}
 use Rattle.scapconf.specs.declared.status.Status.{Status}
-use Rattle.scapconf.specs.declared.status.Status.TheVariants.{Done, Memory, Usage, Settings, ReadFault, WriteFault, NotPcap, BadRecord, CutShort, TooLong, Unbuilt}
+use Rattle.scapconf.specs.declared.status.Status.TheVariants.{Done, Memory, Usage, Settings as Faulty, ReadFault, WriteFault, NotPcap, BadRecord, CutShort, TooLong, Unbuilt}
 use Rattle.labtop.specs.Names.{delivery_name, report_name}
-use Rattle.labtop.specs.Drill.{Verdict, Delivers, Refused, NotBuilt, verdict_of}
+use Rattle.labtop.specs.Drill.{Verdict, Delivers, Refused, NotBuilt, Missing, asked_of, verdict_of}
 use Rattle.labtop.specs.Gives.{Gives}
-use Rattle.labtop.specs.declared.setup.Setup.{Setup}
-use Rattle.labtop.specs.Settings.{Plan, plan_of}
+use Rattle.scapconf.specs.declared.settings.Settings.{Settings}
+use Rattle.labtop.specs.Settings.{is_built, terms_of}
 use Rattle.labtop.specs.Answers.{Allows, Completes, IsDone, IsPart, LeavesParts}
 
 parts_given : (m : Terms) (o : Outcome) (v : Verdict) (out : List ℕ) (old new : Option (List File)) → Gives m (Ok o) v
@@ -23,12 +23,14 @@ parts_given m o (Delivers p) out old new g d r = inr (record {
 })
 parts_given m o (Refused fault) out old new g d r = absurd g
 parts_given m o NotBuilt out old new g d r = absurd g
+parts_given m o Missing out old new g d r = absurd g
 
 done_given : (m : Terms) (o : Outcome) (v : Verdict) (out : List ℕ) (old new : Option (List File)) → Gives m (Ok o) v
     → new ≡ told_put (report_name out) o.report.items (told_put (delivery_name out) o.delivery.items old) → IsDone m v out o.journal old new
 done_given m o (Delivers p) out old new g e = (g.0, e ∙ (λ i. told_put (report_name out) (g.2 i) (told_put (delivery_name out) (g.1 i) old)))
 done_given m o (Refused fault) out old new g e = absurd g
 done_given m o NotBuilt out old new g e = absurd g
+done_given m o Missing out old new g e = absurd g
 
 -- a refusal in place of an outcome
 refused_by : (t : Terms) (s : Status) (v : Verdict) → Gives t (Err s) v → Allows v s × Completes v s
@@ -39,8 +41,9 @@ refused_by t Memory v h = (tt, memory v)
     memory (Delivers c) = inr refl
     memory (Refused fault) = tt
     memory NotBuilt = tt
+    memory Missing = tt
 refused_by t Usage v h = absurd h
-refused_by t (Settings line kind) v h = absurd h
+refused_by t (Faulty line kind) v h = absurd h
 refused_by t (BadRecord at len) v h = absurd h
 refused_by t (CutShort bytes) v h = absurd h
 refused_by t TooLong v h = absurd h
@@ -49,9 +52,11 @@ refused_by t WriteFault v h = absurd h
 refused_by t (NotPcap kind) (Delivers c) h = absurd h
 refused_by t (NotPcap kind) (Refused fault) h = (h, tt)
 refused_by t (NotPcap kind) NotBuilt h = absurd h
+refused_by t (NotPcap kind) Missing h = absurd h
 refused_by t Unbuilt (Delivers c) h = absurd h
 refused_by t Unbuilt (Refused fault) h = absurd h
 refused_by t Unbuilt NotBuilt h = (tt, tt)
+refused_by t Unbuilt Missing h = absurd h
 
 -- an outcome that is written, or not
 written_by : (t : Terms) (o : Outcome) (s : Status) (v : Verdict) → Gives t (Ok o) v → (s ≡ Done) ⊎ ((s ≡ Memory) ⊎ (s ≡ WriteFault)) → Allows v s
@@ -60,51 +65,81 @@ written_by t o s (Delivers c) h (inr (inl e)) = subst (Allows (Delivers c)) (sym
 written_by t o s (Delivers c) h (inr (inr e)) = subst (Allows (Delivers c)) (sym e) tt
 written_by t o s (Refused fault) h e = absurd h
 written_by t o s NotBuilt h e = absurd h
+written_by t o s Missing h e = absurd h
 
--- What a setup gives for what was read of a file, of the file and the plan that the setup stands for.
+-- What was read of a file, and what it gives: the file asks for what was read.
 
-pub record HasRead (plan : Plan) (told : Option (List ℕ)) (r : Result Outcome Status) (front : List ℕ) : Type 0 where
-  pub same : IfSome told (λ file. verdict_of plan file ≡ verdict_of plan front)
-  pub gives : Gives plan.terms r (verdict_of plan front)
+pub record HasRead (p : Settings) (files : Option (List File)) (name : List ℕ) (r : Result Outcome Status) (front : List ℕ) : Type 0 where
+  pub same : IfSome files (λ fs. asked_of p (file_of fs name) ≡ verdict_of p front)
+  pub gives : Gives (terms_of p) r (verdict_of p front)
 
-pub has_read : (setup : Setup) (plan : Plan) (told : Option (List ℕ)) (r : Result Outcome Status) (bytes front : List ℕ) → plan_of setup ≡ plan → front ≡ bytes
-    → IfSome told (λ file. verdict_of plan file ≡ verdict_of plan bytes) → Gives (plan_of setup).terms r (verdict_of (plan_of setup) front) → HasRead plan told r front
-has_read setup plan told r bytes front is read same gives = record {
-  same = subst (λ (b : List ℕ). IfSome told (λ file. verdict_of plan file ≡ verdict_of plan b)) (sym read) same;
-  gives = subst (λ (p : Plan). Gives p.terms r (verdict_of p front)) is gives;
+pub has_read : (p : Settings) (files : Option (List File)) (name : List ℕ) (r : Result Outcome Status) (bytes front : List ℕ) → front ≡ bytes
+    → IfSome files (λ fs. asked_of p (file_of fs name) ≡ verdict_of p bytes) → Gives (terms_of p) r (verdict_of p front) → HasRead p files name r front
+has_read p files name r bytes front read same gives = record {
+  same = subst (λ (b : List ℕ). IfSome files (λ fs. asked_of p (file_of fs name) ≡ verdict_of p b)) (sym read) same;
+  gives = gives;
 }
 
-pub allowed : (plan : Plan) (told : Option (List ℕ)) (s end : Status) (front : List ℕ) → end ≡ s → HasRead plan told (Err s) front → IfSome told (λ file. Allows (verdict_of plan file) end)
-allowed plan None s end front e h = tt
-allowed plan (Some file) s end front e h =
-    subst (λ (x : Status). Allows (verdict_of plan file) x) (sym e) (subst (λ (v : Verdict). Allows v s) (sym h.same) (refused_by plan.terms s (verdict_of plan front) h.gives).0)
+-- what holds of the verdict on what was read holds of the file's
+of_file : (P : Verdict → Type 0) (p : Settings) (files : Option (List File)) (name : List ℕ) (r : Result Outcome Status) (front : List ℕ) → HasRead p files name r front
+    → P (verdict_of p front) → IfSome files (λ fs. P (asked_of p (file_of fs name)))
+of_file P p None name r front h q = tt
+of_file P p (Some fs) name r front h q = subst P (sym h.same) q
 
-pub complete_refused : (plan : Plan) (told : Option (List ℕ)) (s end : Status) (front : List ℕ) → end ≡ s → HasRead plan told (Err s) front → IfSome told (λ file. Completes (verdict_of plan file) end)
-complete_refused plan None s end front e h = tt
-complete_refused plan (Some file) s end front e h =
-    subst (λ (x : Status). Completes (verdict_of plan file) x) (sym e) (subst (λ (v : Verdict). Completes v s) (sym h.same) (refused_by plan.terms s (verdict_of plan front) h.gives).1)
+pub allowed : (p : Settings) (files : Option (List File)) (name : List ℕ) (s end : Status) (front : List ℕ) → end ≡ s → HasRead p files name (Err s) front
+    → IfSome files (λ fs. Allows (asked_of p (file_of fs name)) end)
+allowed p files name s end front e h =
+    of_file (λ (v : Verdict). Allows v end) p files name (Err s) front h
+    (subst (Allows (verdict_of p front)) (sym e) (refused_by (terms_of p) s (verdict_of p front) h.gives).0)
 
-pub written : (plan : Plan) (told : Option (List ℕ)) (o : Outcome) (s end : Status) (front : List ℕ) → end ≡ s → HasRead plan told (Ok o) front → (s ≡ Done) ⊎ ((s ≡ Memory) ⊎ (s ≡ WriteFault))
-    → IfSome told (λ file. Allows (verdict_of plan file) end)
-written plan None o s end front e h w = tt
-written plan (Some file) o s end front e h w =
-    subst (λ (x : Status). Allows (verdict_of plan file) x) (sym e) (subst (λ (v : Verdict). Allows v s) (sym h.same) (written_by plan.terms o s (verdict_of plan front) h.gives w))
+pub complete_refused : (p : Settings) (files : Option (List File)) (name : List ℕ) (s end : Status) (front : List ℕ) → end ≡ s → HasRead p files name (Err s) front
+    → IfSome files (λ fs. Completes (asked_of p (file_of fs name)) end)
+complete_refused p files name s end front e h =
+    of_file (λ (v : Verdict). Completes v end) p files name (Err s) front h
+    (subst (Completes (verdict_of p front)) (sym e) (refused_by (terms_of p) s (verdict_of p front) h.gives).1)
+
+pub written : (p : Settings) (files : Option (List File)) (name : List ℕ) (o : Outcome) (s end : Status) (front : List ℕ) → end ≡ s → HasRead p files name (Ok o) front
+    → (s ≡ Done) ⊎ ((s ≡ Memory) ⊎ (s ≡ WriteFault)) → IfSome files (λ fs. Allows (asked_of p (file_of fs name)) end)
+written p files name o s end front e h w =
+    of_file (λ (v : Verdict). Allows v end) p files name (Ok o) front h
+    (subst (Allows (verdict_of p front)) (sym e) (written_by (terms_of p) o s (verdict_of p front) h.gives w))
 
 -- the outputs hold parts of the texts that the capture's bytes ask for
-pub parts_left : (plan : Plan) (told : Option (List ℕ)) (o : Outcome) (front out : List ℕ) (old mid new : Option (List File)) → mid ≡ old → HasRead plan told (Ok o) front
+pub parts_left : (p : Settings) (files : Option (List File)) (name : List ℕ) (o : Outcome) (front out : List ℕ) (old mid new : Option (List File)) → mid ≡ old → HasRead p files name (Ok o) front
     → IsPart o.delivery.items (told_file mid (delivery_name out)) (told_file new (delivery_name out))
     → IsPart o.report.items (told_file mid (report_name out)) (told_file new (report_name out))
-    → IfSome told (λ file. LeavesParts plan.terms (verdict_of plan file) out old new)
-parts_left plan None o front out old mid new e h d r = tt
-parts_left plan (Some file) o front out old mid new e h d r =
-    subst (λ (x : Verdict). LeavesParts plan.terms x out old new) (sym h.same)
-    (subst (λ (x : Option (List File)). LeavesParts plan.terms (verdict_of plan front) out x new) e (parts_given plan.terms o (verdict_of plan front) out mid new h.gives d r))
+    → IfSome files (λ fs. LeavesParts (terms_of p) (asked_of p (file_of fs name)) out old new)
+parts_left p files name o front out old mid new e h d r =
+    of_file (λ (v : Verdict). LeavesParts (terms_of p) v out old new) p files name (Ok o) front h
+    (subst (λ (x : Option (List File)). LeavesParts (terms_of p) (verdict_of p front) out x new) e (parts_given (terms_of p) o (verdict_of p front) out mid new h.gives d r))
 
 -- the whole texts
-pub all_done : (plan : Plan) (told : Option (List ℕ)) (o : Outcome) (front out : List ℕ) (old mid new : Option (List File)) → mid ≡ old → HasRead plan told (Ok o) front
+pub all_done : (p : Settings) (files : Option (List File)) (name : List ℕ) (o : Outcome) (front out : List ℕ) (old mid new : Option (List File)) → mid ≡ old → HasRead p files name (Ok o) front
     → new ≡ told_put (report_name out) o.report.items (told_put (delivery_name out) o.delivery.items mid)
-    → IfSome told (λ file. IsDone plan.terms (verdict_of plan file) out o.journal old new)
-all_done plan None o front out old mid new e h w = tt
-all_done plan (Some file) o front out old mid new e h w =
-    subst (λ (x : Verdict). IsDone plan.terms x out o.journal old new) (sym h.same)
-    (done_given plan.terms o (verdict_of plan front) out old new h.gives (w ∙ ap (λ (x : Option (List File)). told_put (report_name out) o.report.items (told_put (delivery_name out) o.delivery.items x)) e))
+    → IfSome files (λ fs. IsDone (terms_of p) (asked_of p (file_of fs name)) out o.journal old new)
+all_done p files name o front out old mid new e h w =
+    of_file (λ (v : Verdict). IsDone (terms_of p) v out o.journal old new) p files name (Ok o) front h
+    (done_given (terms_of p) o (verdict_of p front) out old new h.gives (w ∙ ap (λ (x : Option (List File)). told_put (report_name out) o.report.items (told_put (delivery_name out) o.delivery.items x)) e))
+
+-- what isn't built of the settings
+asked_unbuilt : (p : Settings) (o : Option (List ℕ)) → is_built p ≡ false → asked_of p o ≡ NotBuilt
+asked_unbuilt p None h = ap (λ (b : Bool). cond b Missing NotBuilt) h
+asked_unbuilt p (Some file) h = ap (λ (b : Bool). cond b (verdict_of p file) NotBuilt) h
+
+pub unbuilt : (P : Verdict → Type 0) (p : Settings) (files : Option (List File)) (name : List ℕ) → is_built p ≡ false → P NotBuilt → IfSome files (λ fs. P (asked_of p (file_of fs name)))
+unbuilt P p None name h q = tt
+unbuilt P p (Some fs) name h q = subst P (sym (asked_unbuilt p (file_of fs name) h)) q
+
+-- a refusal before anything is written
+leaves_same : (t : Terms) (v : Verdict) (out : List ℕ) (old new : Option (List File)) → new ≡ old → LeavesParts t v out old new
+leaves_same t (Delivers c) out old new e = inl e
+leaves_same t (Refused fault) out old new e = e
+leaves_same t NotBuilt out old new e = e
+leaves_same t Missing out old new e = e
+
+pub left_same : (p : Settings) (files : Option (List File)) (name out : List ℕ) (old new : Option (List File)) → new ≡ old → IfSome files (λ fs. LeavesParts (terms_of p) (asked_of p (file_of fs name)) out old new)
+left_same p None name out old new e = tt
+left_same p (Some fs) name out old new e = leaves_same (terms_of p) (asked_of p (file_of fs name)) out old new e
+
+pub built : (b x : Bool) → b ≡ x → b ≡ true → x ≡ true
+built b x e h = sym e ∙ h

@@ -10,3 +10,5 @@ pub mod WordsLemmas
 pub mod OutcomeLemmas
 pub mod TotalsLemmas
 pub mod LawLemmas
+pub mod SettingsLemmas
+pub mod AnswerLemmas

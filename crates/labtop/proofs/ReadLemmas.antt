@@ -1,10 +1,13 @@
-use Rattle.std.proofs.Common.{◌≡◌, ℕ, ◌+◌, ◌≤◌, List, [], ◌++◌, length, take, drop, ap, sym, ◌∙◌, subst, append_assoc, append-nil}
-use Rattle.std.specs.Prelude.{Option, Some, None, IfSome}
+use Rattle.std.proofs.Common.{◌≡◌, ℕ, ◌+◌, ◌≤◌, List, [], ◌++◌, length, take, drop, ap, sym, ◌∙◌, subst, append_assoc, append-nil, Bool, true, false, cond}
+use Rattle.std.specs.Prelude.{Option, Some, None, IfSome, IsSome, IfOk, OnOk, Result, Ok, Err}
 use Rattle.std.proofs.lemmas.List.{take-append-drop, take_all, take_at}
 use Rattle.scap_world.specs.Contents.{prefixed, dropped}
 use Rattle.labtop.specs.declared.capture.TheConstants.{MOST_BUILT}
-use Rattle.labtop.specs.Drill.{verdict_of}
-use Rattle.labtop.specs.Settings.{Plan}
+use Rattle.labtop.specs.Drill.{NotBuilt, asked_of, verdict_of}
+use Rattle.labtop.specs.Settings.{is_built}
+use Rattle.scap_world.specs.Files.{File, file_of, told_file, IsThere}
+use Rattle.scapconf.specs.declared.status.Status.{Status}
+use Rattle.scapconf.specs.declared.settings.Settings.{Settings}
 use Rattle.labtop.proofs.VerdictLemmas.{verdict_of-take}
 
 -- a read moves the front of what is left behind what was read
@@ -32,8 +35,23 @@ read_most whole None bytes m e le = subst (λ (o : Option (List ℕ)). IfSome o 
 read_most whole (Some b) bytes m e le = subst (λ (o : Option (List ℕ)). IfSome o (λ w. bytes ≡ take m w)) (sym e) (sym (take_at bytes b m le))
 
 -- what was read of a file asks for what the file asks for
-pub verdict_read : (plan : Plan) (told left : Option (List ℕ)) (bytes : List ℕ) → left ≡ told → IfSome left (λ file. bytes ≡ take (MOST_BUILT + 1) file)
-    → IfSome told (λ file. verdict_of plan file ≡ verdict_of plan bytes)
-verdict_read plan told None bytes e h = subst (λ (o : Option (List ℕ)). IfSome o (λ file. verdict_of plan file ≡ verdict_of plan bytes)) e tt
-verdict_read plan told (Some file) bytes e h =
-    subst (λ (o : Option (List ℕ)). IfSome o (λ file. verdict_of plan file ≡ verdict_of plan bytes)) e (sym (ap (verdict_of plan) h ∙ verdict_of-take plan file))
+
+pub none_there : {A : Type 0} → false ≡ true → A
+none_there e = absurd (subst (λ (b : Bool). cond b ⊥ (Unit {0})) e tt)
+
+asked_at : (s : Settings) (o : Option (List ℕ)) (bytes : List ℕ) → is_built s ≡ true → IsSome o → IfSome o (λ file. bytes ≡ take (MOST_BUILT + 1) file)
+    → asked_of s o ≡ verdict_of s bytes
+asked_at s None bytes built there h = none_there there
+asked_at s (Some file) bytes built there h =
+    ap (λ (b : Bool). cond b (verdict_of s file) NotBuilt) built ∙ sym (ap (verdict_of s) h ∙ verdict_of-take s file)
+
+pub asked_read : (s : Settings) (files : Option (List File)) (name bytes : List ℕ) → is_built s ≡ true → IsThere files name
+    → IfSome (told_file files name) (λ file. bytes ≡ take (MOST_BUILT + 1) file) → IfSome files (λ fs. asked_of s (file_of fs name) ≡ verdict_of s bytes)
+asked_read s None name bytes built there h = tt
+asked_read s (Some fs) name bytes built there h = asked_at s (file_of fs name) bytes built there h
+
+pub asked_of_read : {V : Type 0} (items : V → List ℕ) (s : Settings) (files : Option (List File)) (name : List ℕ) (r : Result V Status) → is_built s ≡ true → OnOk r (IsThere files name)
+    → IfOk r (λ v. IfSome (told_file files name) (λ file. items v ≡ take (MOST_BUILT + 1) file))
+    → IfOk r (λ v. IfSome files (λ fs. asked_of s (file_of fs name) ≡ verdict_of s (items v)))
+asked_of_read items s files name (Ok v) built there h = asked_read s files name (items v) built there h
+asked_of_read items s files name (Err e) built there h = tt

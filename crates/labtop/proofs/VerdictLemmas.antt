@@ -14,18 +14,18 @@ use Rattle.labtop.specs.declared.outcome.Outcome.{Outcome}
 use Rattle.scapconf.specs.declared.status.Status.{Status}
 use Rattle.labtop.specs.Drill.{Verdict, Refused, NotBuilt, limits, of_capture, of_frames, whole_of, verdict_of}
 use Rattle.labtop.specs.Gives.{Gives}
-use Rattle.labtop.specs.Settings.{Plan}
+use Rattle.scapconf.specs.declared.settings.Settings.{Settings}
 use Rattle.labtop.proofs.HeadLemmas.{head_of-append}
 
 -- a verdict by the head and the records
-pub verdict_of_frames : (plan : Plan) (bytes : List ℕ) (head : FileHead) (o : Option (List Frame)) (rest : List ℕ) → head_of bytes ≡ Ok head → nat_lt MOST_BUILT (length bytes) ≡ false
-    → rest ≡ drop 24 bytes → o ≡ whole_of (records_from (suc (suc (length bytes))) head limits 24 0 rest) → verdict_of plan bytes ≡ of_frames plan head.link o
+pub verdict_of_frames : (s : Settings) (bytes : List ℕ) (head : FileHead) (o : Option (List Frame)) (rest : List ℕ) → head_of bytes ≡ Ok head → nat_lt MOST_BUILT (length bytes) ≡ false
+    → rest ≡ drop 24 bytes → o ≡ whole_of (records_from (suc (suc (length bytes))) head limits 24 0 rest) → verdict_of s bytes ≡ of_frames s head.link o
 unfolding verdict_of
-verdict_of_frames plan bytes head o rest h small behind same =
-    ap (λ (r : Result FileHead HeadFault). of_capture plan (length bytes) (behind_head limits bytes r)) h
-    ∙ ap (λ (b : Bool). cond b NotBuilt (of_frames plan head.link (whole_of (records_from (suc (suc (length bytes))) head limits 24 0 (drop 24 bytes))))) small
-    ∙ ap (λ (r : List ℕ). of_frames plan head.link (whole_of (records_from (suc (suc (length bytes))) head limits 24 0 r))) (sym behind)
-    ∙ ap (of_frames plan head.link) (sym same)
+verdict_of_frames s bytes head o rest h small behind same =
+    ap (λ (r : Result FileHead HeadFault). of_capture s (length bytes) (behind_head limits bytes r)) h
+    ∙ ap (λ (b : Bool). cond b NotBuilt (of_frames s head.link (whole_of (records_from (suc (suc (length bytes))) head limits 24 0 (drop 24 bytes))))) small
+    ∙ ap (λ (r : List ℕ). of_frames s head.link (whole_of (records_from (suc (suc (length bytes))) head limits 24 0 r))) (sym behind)
+    ∙ ap (of_frames s head.link) (sym same)
 
 pub gives_at : (m : Terms) (r : Result Outcome Status) (v w : Verdict) → v ≡ w → Gives m r w → Gives m r v
 gives_at m r v w e h = subst (λ (x : Verdict). Gives m r x) (sym e) h
@@ -35,22 +35,22 @@ abbrev of_long : Result FileHead HeadFault → Verdict
 of_long (Err fault) = Refused fault
 of_long (Ok head) = NotBuilt
 
-by_head : (plan : Plan) (bytes : List ℕ) → nat_lt MOST_BUILT (length bytes) ≡ true → (r : Result FileHead HeadFault) → of_capture plan (length bytes) (behind_head limits bytes r) ≡ of_long r
-by_head plan bytes long (Err fault) = refl
-by_head plan bytes long (Ok head) =
-    ap (λ (b : Bool). cond b NotBuilt (of_frames plan head.link (whole_of (records_from (suc (suc (length bytes))) head limits 24 0 (drop 24 bytes))))) long
+by_head : (s : Settings) (bytes : List ℕ) → nat_lt MOST_BUILT (length bytes) ≡ true → (r : Result FileHead HeadFault) → of_capture s (length bytes) (behind_head limits bytes r) ≡ of_long r
+by_head s bytes long (Err fault) = refl
+by_head s bytes long (Ok head) =
+    ap (λ (b : Bool). cond b NotBuilt (of_frames s head.link (whole_of (records_from (suc (suc (length bytes))) head limits 24 0 (drop 24 bytes))))) long
 
-long_verdict : (plan : Plan) (bytes : List ℕ) → MOST_BUILT < length bytes → verdict_of plan bytes ≡ of_long (head_of bytes)
+long_verdict : (s : Settings) (bytes : List ℕ) → MOST_BUILT < length bytes → verdict_of s bytes ≡ of_long (head_of bytes)
 unfolding verdict_of
-long_verdict plan bytes long = by_head plan bytes (let test : nat_lt MOST_BUILT (length bytes) ≡ true = grind (arith, nat_tests) in test) (head_of bytes)
+long_verdict s bytes long = by_head s bytes (let test : nat_lt MOST_BUILT (length bytes) ≡ true = grind (arith, nat_tests) in test) (head_of bytes)
 
 -- the bytes up to one past the most that are built decide
-pub verdict_of-take : (plan : Plan) (bytes : List ℕ) → verdict_of plan (take (MOST_BUILT + 1) bytes) ≡ verdict_of plan bytes
-verdict_of-take plan bytes = elim (cases_lt MOST_BUILT (length bytes)) [
+pub verdict_of-take : (s : Settings) (bytes : List ℕ) → verdict_of s (take (MOST_BUILT + 1) bytes) ≡ verdict_of s bytes
+verdict_of-take s bytes = elim (cases_lt MOST_BUILT (length bytes)) [
   | inl long ↦
       let front : MOST_BUILT < length (take (MOST_BUILT + 1) bytes) = omega (arith, length-take (MOST_BUILT + 1) bytes) in
-      long_verdict plan (take (MOST_BUILT + 1) bytes) front
+      long_verdict s (take (MOST_BUILT + 1) bytes) front
       ∙ ap of_long (sym (head_of-append (take (MOST_BUILT + 1) bytes) (drop (MOST_BUILT + 1) bytes) (omega arith)) ∙ ap head_of (take-append-drop (MOST_BUILT + 1) bytes))
-      ∙ sym (long_verdict plan bytes long)
-  | inr short ↦ ap (verdict_of plan) (take_all (MOST_BUILT + 1) bytes (omega arith))
+      ∙ sym (long_verdict s bytes long)
+  | inr short ↦ ap (verdict_of s) (take_all (MOST_BUILT + 1) bytes (omega arith))
 ]

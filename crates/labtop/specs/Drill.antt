@@ -6,15 +6,17 @@ use Rattle.pcapfile.specs.declared.frame.Frame.{Frame}
 use Rattle.pcapfile.specs.Capture.{Limits, End, Whole, Cut, TooBig, TooLong, Records, capture_of}
 use Rattle.labtop.specs.declared.capture.TheConstants.{MOST_FRAMES, MOST_BYTES, MOST_BUILT}
 use Rattle.labtop.specs.Scapconf.{Captured, captured, has_segment}
-use Rattle.labtop.specs.Settings.{Plan}
+use Rattle.labtop.specs.Settings.{is_built}
+use Rattle.scapconf.specs.declared.settings.Settings.{Settings}
 
 -- docs/RULES.md, "Answers".
 
--- what a capture's bytes ask for: the delivery of its packets, a refusal, or what isn't built yet
+-- what a capture asks for: the delivery of its packets, a refusal, what isn't built yet, or a file that is missing
 pub data Verdict : Type 0 where
   Delivers : Captured → Verdict
   Refused : HeadFault → Verdict
   NotBuilt : Verdict
+  Missing : Verdict
 
 abbrev pub limits : Limits
 limits = record { frames = MOST_FRAMES; bytes = MOST_BYTES }
@@ -37,14 +39,19 @@ is_long idle c = nat_le (c.first + idle) c.last
 abbrev pub of_captured : ℕ → Captured → Verdict
 of_captured idle c = if has_segment c.packets || is_long idle c then NotBuilt else Delivers c
 
-abbrev pub of_frames : Plan → Link → Option (List Frame) → Verdict
-of_frames plan link None = NotBuilt
-of_frames plan link (Some frames) = of_captured plan.terms.idle (captured plan.filter link frames)
+abbrev pub of_frames : Settings → Link → Option (List Frame) → Verdict
+of_frames s link None = NotBuilt
+of_frames s link (Some frames) = of_captured s.set.shape.idle (captured s.filter link frames)
 
-abbrev pub of_capture : Plan → ℕ → Result (FileHead × Records) HeadFault → Verdict
-of_capture plan size (Err fault) = Refused fault
-of_capture plan size (Ok capture) =
-    if nat_lt MOST_BUILT size then NotBuilt else of_frames plan capture.0.link (whole_of capture.1)
+abbrev pub of_capture : Settings → ℕ → Result (FileHead × Records) HeadFault → Verdict
+of_capture s size (Err fault) = Refused fault
+of_capture s size (Ok capture) =
+    if nat_lt MOST_BUILT size then NotBuilt else of_frames s capture.0.link (whole_of capture.1)
 
-unfoldable pub verdict_of : Plan → List ℕ → Verdict
-verdict_of plan file = of_capture plan (length file) (capture_of limits file)
+unfoldable pub verdict_of : Settings → List ℕ → Verdict
+verdict_of s file = of_capture s (length file) (capture_of limits file)
+
+-- what settings and the file of a capture ask for: what isn't built of the settings comes before the file
+abbrev pub asked_of : Settings → Option (List ℕ) → Verdict
+asked_of s None = if is_built s then Missing else NotBuilt
+asked_of s (Some file) = if is_built s then verdict_of s file else NotBuilt

@@ -9,3 +9,7 @@ delivery_name out = out ++ codes ".0"
 -- the file of the report
 abbrev pub report_name : List ℕ → List ℕ
 report_name out = out ++ codes ".report"
+
+-- the file of the numbers that match
+abbrev pub match_name : List ℕ → List ℕ
+match_name out = out ++ codes ".match"

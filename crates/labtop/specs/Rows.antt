@@ -5,7 +5,8 @@ use Rattle.streamkey.specs.declared.addr.Addr.TheVariants.{V4}
 use Rattle.streamkey.specs.declared.proto.Proto.TheVariants.{Udp}
 use Rattle.streamkey.specs.declared.toward.Toward.TheVariants.{Up}
 use Rattle.streamdefs.specs.Packet.{Packet}
-use Rattle.labtop.specs.Settings.{Plan, default_marks, plan_with}
+use Rattle.scapconf.specs.declared.settings.Settings.{Settings}
+use Rattle.scapconf.specs.Defaults.{default_settings}
 
 -- small captures, written out by hand
 
@@ -94,5 +95,5 @@ packet_at number now = record {
 }
 
 -- the default settings, with a filter
-abbrev pub filtered_by : Primitive → Plan
-filtered_by prim = record (plan_with default_marks) { filter = Some (Test prim) }
+abbrev pub filtered_by : Primitive → Settings
+filtered_by prim = record default_settings { filter = Some (Test prim) }

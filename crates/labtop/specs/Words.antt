@@ -1,7 +1,7 @@
-use Rattle.std.specs.Prelude.{ℕ, ◌≡◌, List, [], ◌∷◌, Bool, false, ◌&&◌, ◌||◌, not, nat_eq, codes, if◌then◌else◌}
+use Rattle.std.specs.Prelude.{ℕ, ◌≡◌, List, [], ◌∷◌, Bool, false, ◌&&◌, ◌||◌, not, nat_eq, codes, if◌then◌else◌, Option, Some, None}
 use Rattle.std.specs.Borrow.{Bor}
 use Rattle.std.specs.Str.{bytes_eq}
-use Rattle.labtop.specs.Names.{delivery_name, report_name}
+use Rattle.labtop.specs.Names.{delivery_name, report_name, match_name}
 use Rattle.labtop.specs.declared.words.Asked.{Asked}
 use Rattle.labtop.specs.declared.words.Asked.TheVariants as asked
 
@@ -9,7 +9,8 @@ use Rattle.labtop.specs.declared.words.Asked.TheVariants as asked
 
 -- what words ask for: `Later` are those of commands and options that are not built yet, `Wrong` all others
 pub data Command : Type 0 where
-  Drill : (capture out : List ℕ) → Command
+  Drill : (settings : Option (List ℕ)) → (capture out : List ℕ) → Command
+  Match : (filter capture out : List ℕ) → Command
   Wrong : Command
   Later : Command
 
@@ -25,49 +26,89 @@ is_positional (c ∷ cs) = not (nat_eq c 45)
 
 -- the commands that are not built yet
 unfoldable pub is_later_command : List ℕ → Bool
-is_later_command word = bytes_eq word (codes "match") || bytes_eq word (codes "make") || bytes_eq word (codes "audit")
+is_later_command word = bytes_eq word (codes "make") || bytes_eq word (codes "audit")
 
 -- the options of drill that are not built yet
 unfoldable pub is_later_option : List ℕ → Bool
-is_later_option word = bytes_eq word (codes "--settings") || bytes_eq word (codes "--cores") || bytes_eq word (codes "--workers") || bytes_eq word (codes "--seed")
+is_later_option word = bytes_eq word (codes "--cores") || bytes_eq word (codes "--workers") || bytes_eq word (codes "--seed")
 
 abbrev pub has_later : List (List ℕ) → Bool
 has_later [] = false
 has_later (word ∷ words) = is_later_option word || has_later words
 
--- two positionals, and no output has the capture's name
-unfoldable pub is_pair : List ℕ → List ℕ → Bool
-is_pair capture out =
-    is_positional capture && is_positional out && not (bytes_eq (delivery_name out) capture) && not (bytes_eq (report_name out) capture)
+-- two positionals, and no output of a drill has the name of a file that is read
+unfoldable pub is_output : (out name : List ℕ) → Bool
+is_output out name = bytes_eq (delivery_name out) name || bytes_eq (report_name out) name
 
-abbrev pub pair_of : List (List ℕ) → Command
-pair_of [] = Wrong
-pair_of (capture ∷ []) = Wrong
-pair_of (capture ∷ out ∷ []) = if is_pair capture out then Drill capture out else Wrong
-pair_of (capture ∷ out ∷ more ∷ words) = Wrong
+abbrev pub is_option : (out : List ℕ) → Option (List ℕ) → Bool
+is_option out None = false
+is_option out (Some name) = is_output out name
 
--- `drill CAPTURE OUT`, behind the program's name; what is not built yet comes before what is wrong
+unfoldable pub is_drill : (settings : Option (List ℕ)) → (capture out : List ℕ) → Bool
+is_drill settings capture out = is_positional capture && is_positional out && not (is_output out capture) && not (is_option out settings)
+
+abbrev pub drill_of : Option (List ℕ) → List (List ℕ) → Command
+drill_of settings [] = Wrong
+drill_of settings (capture ∷ []) = Wrong
+drill_of settings (capture ∷ out ∷ []) = if is_drill settings capture out then Drill settings capture out else Wrong
+drill_of settings (capture ∷ out ∷ more ∷ words) = Wrong
+
+-- `[--settings FILE] CAPTURE OUT`
+abbrev pub drill_words : List (List ℕ) → Command
+drill_words [] = Wrong
+drill_words (word ∷ []) = Wrong
+drill_words (word ∷ next ∷ words) =
+    if bytes_eq word (codes "--settings") then drill_of (Some next) words else drill_of None (word ∷ next ∷ words)
+
+-- three positionals, and the output doesn't have the capture's name
+unfoldable pub is_match : (filter capture out : List ℕ) → Bool
+is_match filter capture out =
+    is_positional filter && is_positional capture && is_positional out && not (bytes_eq (match_name out) capture)
+
+-- `FILTER CAPTURE OUT`
+abbrev pub match_words : List (List ℕ) → Command
+match_words [] = Wrong
+match_words (filter ∷ []) = Wrong
+match_words (filter ∷ capture ∷ []) = Wrong
+match_words (filter ∷ capture ∷ out ∷ []) = if is_match filter capture out then Match filter capture out else Wrong
+match_words (filter ∷ capture ∷ out ∷ more ∷ words) = Wrong
+
+-- a command and its words, behind the program's name; what is not built yet comes before what is wrong
 abbrev pub command_of : List (List ℕ) → Command
 command_of [] = Wrong
 command_of (program ∷ []) = Wrong
 command_of (program ∷ command ∷ words) =
     if is_later_command command then Later else
-    if bytes_eq command (codes "drill") then (if has_later words then Later else pair_of words) else Wrong
+    if bytes_eq command (codes "drill") then (if has_later words then Later else drill_words words) else
+    if bytes_eq command (codes "match") then match_words words else Wrong
 
 -- the files that a command creates
 abbrev pub outputs_of : Command → List (List ℕ)
-outputs_of (Drill capture out) = delivery_name out ∷ report_name out ∷ []
+outputs_of (Drill settings capture out) = delivery_name out ∷ report_name out ∷ []
+outputs_of (Match filter capture out) = match_name out ∷ []
 outputs_of Wrong = []
 outputs_of Later = []
 
+-- the bytes of an option's value
+abbrev pub told_word : Option (Bor (List ℕ)) → Option (List ℕ)
+told_word None = None
+told_word (Some word) = Some word.now
+
 -- what the code found is that command
 abbrev pub Means : Asked → Command → Type 0
-Means (asked.Drill c o) (Drill capture out) = (c.now ≡ capture) × (o.now ≡ out)
-Means (asked.Drill c o) Wrong = ⊥
-Means (asked.Drill c o) Later = ⊥
-Means asked.Wrong (Drill capture out) = ⊥
+Means (asked.Drill s c o) (Drill settings capture out) = (told_word s ≡ settings) × (c.now ≡ capture) × (o.now ≡ out)
+Means (asked.Drill s c o) (Match filter capture out) = ⊥
+Means (asked.Drill s c o) Wrong = ⊥
+Means (asked.Drill s c o) Later = ⊥
+Means (asked.Match f c o) (Drill settings capture out) = ⊥
+Means (asked.Match f c o) (Match filter capture out) = (f.now ≡ filter) × (c.now ≡ capture) × (o.now ≡ out)
+Means (asked.Match f c o) Wrong = ⊥
+Means (asked.Match f c o) Later = ⊥
+Means asked.Wrong (Drill settings capture out) = ⊥
+Means asked.Wrong (Match filter capture out) = ⊥
 Means asked.Wrong Wrong = Unit {0}
 Means asked.Wrong Later = ⊥
-Means asked.Later (Drill capture out) = ⊥
+Means asked.Later (Drill settings capture out) = ⊥
+Means asked.Later (Match filter capture out) = ⊥
 Means asked.Later Wrong = ⊥
 Means asked.Later Later = Unit {0}

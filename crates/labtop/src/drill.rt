@@ -1,21 +1,22 @@
 // From a capture to its files.
-ghost use Rattle.std.specs.Prelude.{◌≡◌, ◌≢◌, ◌⊎◌, ◌≤◌, ◌++◌, ℕ, List, IfOk, IfErr, IfSome, IfNone, OnOk, IsErrOf};
+ghost use Rattle.std.specs.Prelude.{◌≡◌, ◌≢◌, ◌⊎◌, ◌≤◌, ℕ, List, true, false, IfErr, IfSome, MatchOption, OnOk, IsErrOf};
 ghost use Rattle.scap_world.specs.Causes.{Rose};
 ghost use Rattle.scap_world.specs.Files.{file_of, told_file, told_put};
 ghost use Rattle.labtop.specs.Names.{delivery_name, report_name};
-ghost use Rattle.labtop.specs.Drill.{verdict_of};
-ghost use Rattle.labtop.specs.Answers.{Allows, AllowsUnread, Completes, IsBefore, IsDone, IsPart, LeavesParts};
+ghost use Rattle.labtop.specs.Drill.{asked_of};
+ghost use Rattle.labtop.specs.Answers.{Allows, By, Completes, IsAnswer, IsBefore, IsDone, IsDoneBy, IsOfDrill, IsPart, LeavesBy, LeavesParts};
 ghost use Rattle.labtop.specs.Headline.{IsEmpty};
-ghost use Rattle.labtop.specs.Settings.{plan_with};
+ghost use Rattle.labtop.specs.Settings.{GoesBy, is_built, terms_of};
+ghost use Rattle.labtop.specs.Words.{told_word};
 
+use crate::built::is_built;
 use crate::files::{read_capture, write_file};
 use crate::names::{name_of_delivery, name_of_report};
 use crate::outcome::{Outcome, outcome_for};
-use crate::setup::Setup;
 use crate::LabDone;
-use scapconf::Status;
-use prio_budget::Marks;
+use crate::settings_file::settings_by;
 use scap_world::Shelf;
+use scapconf::{Settings, Status};
 use std::alloc::{AllocError, Global};
 
 /// Writes both files.
@@ -47,52 +48,40 @@ fn write_both<S: Shelf>(
     Ok(())
 }
 
-/// Replays a capture under a budget with these marks, and writes its delivery file and its report.
-pub fn drill_run<S: Shelf>(
+/// Replays a capture by these settings, and writes its delivery file and its report.
+fn drill_with<S: Shelf>(
     alloc: Global,
-    marks: &Marks,
+    settings: &Settings,
     capture: &str,
     out: &str,
     shelf: &mut S,
 ) -> LabDone
-    // What the capture's bytes ask for is answered, or a fault of the outside.
-    ensures verdict { IfSome (told_file (S.files shelf.old) capture.now) (λ bytes. Allows (verdict_of (plan_with marks.now) bytes) result.status) }
-    ensures unread { IfSome (S.files shelf.old) (λ files. IfNone (file_of files capture.now) (AllowsUnread result.status)) }
-    ensures never { result.status ≢ Status.Usage }
-
-    // Where it is done, the journal is lawful, its budget's history is one, and the two files are its texts.
-    ensures done { result.status ≡ Status.Done → IfSome (told_file (S.files shelf.old) capture.now)
-        (λ bytes. IsDone (plan_with marks.now).terms (verdict_of (plan_with marks.now) bytes) out.now result.journal (S.files shelf.old) (S.files shelf.new)) }
+    ensures verdict { IfSome (S.files shelf.old) (λ files. Allows (asked_of settings.now (file_of files capture.now)) result.status) }
+    ensures kinds { IsOfDrill result.status }
+    ensures unbuilt { is_built settings.now ≡ false → (result.status ≡ Status.Unbuilt) × (shelf.new ≡ shelf.old) }
+    ensures done { result.status ≡ Status.Done → IfSome (S.files shelf.old)
+        (λ files. IsDone (terms_of settings.now) (asked_of settings.now (file_of files capture.now)) out.now result.journal (S.files shelf.old) (S.files shelf.new)) }
     ensures journal { result.status ≢ Status.Done → IsEmpty result.journal }
-
-    // Whatever the status, an output is as it was or holds a front of its text, and no other file is touched.
-    ensures parts { IfSome (told_file (S.files shelf.old) capture.now)
-        (λ bytes. LeavesParts (plan_with marks.now).terms (verdict_of (plan_with marks.now) bytes) out.now (S.files shelf.old) (S.files shelf.new)) }
+    ensures parts { IfSome (S.files shelf.old)
+        (λ files. LeavesParts (terms_of settings.now) (asked_of settings.now (file_of files capture.now)) out.now (S.files shelf.old) (S.files shelf.new)) }
     ensures before { IsBefore result.status → S.files shelf.new ≡ S.files shelf.old }
     ensures others { (other : List ℕ) → other ≢ delivery_name out.now → other ≢ report_name out.now
         → told_file (S.files shelf.new) other ≡ told_file (S.files shelf.old) other }
-
-    // A fault was counted where it is answered.
-    ensures read { result.status ≡ Status.ReadFault → Rose (S.read_faults shelf.old capture.now) (S.read_faults shelf.new capture.now) }
+    ensures read { result.status ≡ Status.ReadFault
+        → Rose (S.read_faults shelf.old capture.now) (S.read_faults shelf.new capture.now) × (is_built settings.now ≡ true) }
     ensures write { result.status ≡ Status.WriteFault
         → Rose (S.write_faults shelf.old (delivery_name out.now)) (S.write_faults shelf.new (delivery_name out.now))
         ⊎ Rose (S.write_faults shelf.old (report_name out.now)) (S.write_faults shelf.new (report_name out.now)) }
-
-    // Where packets are delivered and no fault was counted, it is done, or there was no memory.
-    ensures complete { (Rose (S.read_faults shelf.old capture.now) (S.read_faults shelf.new capture.now) → ⊥)
-        → (Rose (S.write_faults shelf.old (delivery_name out.now)) (S.write_faults shelf.new (delivery_name out.now)) → ⊥)
-        → (Rose (S.write_faults shelf.old (report_name out.now)) (S.write_faults shelf.new (report_name out.now)) → ⊥)
-        → IfSome (told_file (S.files shelf.old) capture.now) (λ bytes. Completes (verdict_of (plan_with marks.now) bytes) result.status) }
-
-    // What was opened is ended, and what was created is finished.
     ensures open_files { S.open_files shelf.new ≡ S.open_files shelf.old }
 {
-    let setup = Setup::with_marks(marks);
+    if !is_built(settings) {
+        return LabDone::without_report(alloc, Status::Unbuilt);
+    }
     let bytes = match read_capture(alloc, shelf, capture) {
         Ok(bytes) => bytes,
         Err(status) => return LabDone::without_report(alloc, status),
     };
-    let outcome = match outcome_for(alloc, &setup, &bytes) {
+    let outcome = match outcome_for(alloc, settings, &bytes) {
         Ok(outcome) => outcome,
         Err(status) => return LabDone::without_report(alloc, status),
     };
@@ -101,6 +90,84 @@ pub fn drill_run<S: Shelf>(
             status: Status::Done,
             journal: outcome.journal,
         },
+        Err(status) => LabDone::without_report(alloc, status),
+    }
+}
+
+/// Replays a capture by these settings, and writes its delivery file and its report.
+pub fn drill_run<S: Shelf>(
+    alloc: Global,
+    settings: Settings,
+    capture: &str,
+    out: &str,
+    shelf: &mut S,
+) -> LabDone
+    // What the settings and the capture's bytes ask for is answered, or a fault of the outside.
+    ensures verdict { IfSome (S.files shelf.old) (λ files. Allows (asked_of settings (file_of files capture.now)) result.status) }
+    ensures kinds { IsOfDrill result.status }
+
+    // What isn't built of the settings is answered before the shelf is asked for anything.
+    ensures unbuilt { is_built settings ≡ false → (result.status ≡ Status.Unbuilt) × (shelf.new ≡ shelf.old) }
+
+    // Where it is done, the journal is lawful, its budget's history is one, and the two files are its texts.
+    ensures done { result.status ≡ Status.Done → IfSome (S.files shelf.old)
+        (λ files. IsDone (terms_of settings) (asked_of settings (file_of files capture.now)) out.now result.journal (S.files shelf.old) (S.files shelf.new)) }
+    ensures journal { result.status ≢ Status.Done → IsEmpty result.journal }
+
+    // Whatever the status, an output is as it was or holds a front of its text, and no other file is touched.
+    ensures parts { IfSome (S.files shelf.old)
+        (λ files. LeavesParts (terms_of settings) (asked_of settings (file_of files capture.now)) out.now (S.files shelf.old) (S.files shelf.new)) }
+    ensures before { IsBefore result.status → S.files shelf.new ≡ S.files shelf.old }
+    ensures others { (other : List ℕ) → other ≢ delivery_name out.now → other ≢ report_name out.now
+        → told_file (S.files shelf.new) other ≡ told_file (S.files shelf.old) other }
+
+    // A fault was counted where it is answered.
+    ensures read { result.status ≡ Status.ReadFault
+        → Rose (S.read_faults shelf.old capture.now) (S.read_faults shelf.new capture.now) × (is_built settings ≡ true) }
+    ensures write { result.status ≡ Status.WriteFault
+        → Rose (S.write_faults shelf.old (delivery_name out.now)) (S.write_faults shelf.new (delivery_name out.now))
+        ⊎ Rose (S.write_faults shelf.old (report_name out.now)) (S.write_faults shelf.new (report_name out.now)) }
+
+    // Where packets are delivered and no fault was counted, it is done, or there was no memory.
+    ensures complete { (Rose (S.read_faults shelf.old capture.now) (S.read_faults shelf.new capture.now) → ⊥)
+        → (Rose (S.write_faults shelf.old (delivery_name out.now)) (S.write_faults shelf.new (delivery_name out.now)) → ⊥)
+        → (Rose (S.write_faults shelf.old (report_name out.now)) (S.write_faults shelf.new (report_name out.now)) → ⊥)
+        → IfSome (S.files shelf.old) (λ files. Completes (asked_of settings (file_of files capture.now)) result.status) }
+
+    // What was opened is ended, and what was created is finished.
+    ensures open_files { S.open_files shelf.new ≡ S.open_files shelf.old }
+{
+    drill_with(alloc, &settings, capture, out, shelf)
+}
+
+/// Replays a capture by the settings of a file, or by the defaults where none is named.
+pub(crate) fn drill_by<S: Shelf>(
+    alloc: Global,
+    settings: Option<&str>,
+    capture: &str,
+    out: &str,
+    shelf: &mut S,
+) -> LabDone
+    ensures answer { IfSome (S.files shelf.old) (λ files. IsAnswer files (told_word settings.entry) capture.now result.status) }
+    ensures never { result.status ≢ Status.Usage }
+    ensures done { result.status ≡ Status.Done → IfSome (S.files shelf.old)
+        (λ files. IsDoneBy files (told_word settings.entry) capture.now out.now result.journal (S.files shelf.old) (S.files shelf.new)) }
+    ensures journal { result.status ≢ Status.Done → IsEmpty result.journal }
+    ensures parts { IfSome (S.files shelf.old) (λ files. LeavesBy files (told_word settings.entry) capture.now out.now (S.files shelf.old) (S.files shelf.new)) }
+    ensures before { IsBefore result.status → S.files shelf.new ≡ S.files shelf.old }
+    ensures others { (other : List ℕ) → other ≢ delivery_name out.now → other ≢ report_name out.now
+        → told_file (S.files shelf.new) other ≡ told_file (S.files shelf.old) other }
+    ensures read { result.status ≡ Status.ReadFault
+        → MatchOption (told_word settings.entry) ⊥ (λ name. Rose (S.read_faults shelf.old name) (S.read_faults shelf.new name))
+        ⊎ (Rose (S.read_faults shelf.old capture.now) (S.read_faults shelf.new capture.now)
+        × IfSome (S.files shelf.old) (λ files. By files (told_word settings.entry) (λ s. is_built s ≡ true))) }
+    ensures write { result.status ≡ Status.WriteFault
+        → Rose (S.write_faults shelf.old (delivery_name out.now)) (S.write_faults shelf.new (delivery_name out.now))
+        ⊎ Rose (S.write_faults shelf.old (report_name out.now)) (S.write_faults shelf.new (report_name out.now)) }
+    ensures open_files { S.open_files shelf.new ≡ S.open_files shelf.old }
+{
+    match settings_by(alloc, shelf, settings) {
+        Ok(settings) => drill_with(alloc, &settings, capture, out, shelf),
         Err(status) => LabDone::without_report(alloc, status),
     }
 }

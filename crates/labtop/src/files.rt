@@ -1,12 +1,13 @@
 // Whole files of a shelf.
-ghost use Rattle.std.specs.Prelude.{◌≡◌, ◌≢◌, ◌⊎◌, ◌≤◌, ◌+◌, ◌<◌, ℕ, List, [], Some, IfOk, IfErr, IfSome, OnOk, OnErr, IsErrOf, take, length, vec_len};
+ghost use Rattle.std.specs.Prelude.{◌≡◌, ◌≢◌, ◌⊎◌, ◌≤◌, ◌+◌, ◌<◌, ◌^◌, ℕ, true, List, [], Some, IfOk, IfErr, IfSome, OnOk, OnErr, IsErrOf, take, length, vec_len};
 ghost use Rattle.scap_world.specs.Causes.{HasCause, Rose};
-ghost use Rattle.scap_world.specs.Files.{told_file, told_put, IsThere};
+ghost use Rattle.scap_world.specs.Files.{file_of, told_file, told_put, IsThere};
 ghost use Rattle.scap_world.specs.Contents.{prefixed};
 ghost use Rattle.labtop.specs.Causes.{writes_status, reads_status};
 ghost use Rattle.labtop.specs.Answers.{IsPart};
-ghost use Rattle.labtop.specs.Drill.{verdict_of};
-ghost use Rattle.labtop.specs.Settings.{Plan};
+ghost use Rattle.labtop.specs.Drill.{asked_of, verdict_of};
+ghost use Rattle.labtop.specs.Settings.{is_built};
+ghost use Rattle.scapconf.specs.declared.settings.Settings.{Settings};
 
 use scapconf::Status;
 use crate::capture::MOST_BUILT;
@@ -60,14 +61,19 @@ fn read_more<S: Source>(
 }
 
 /// The first bytes of a source, up to one past the most that are taken.
-fn read_front<S: Source>(alloc: Global, source: &mut S) -> Result<Vec<u8>, WorldFault>
-    ensures bytes { IfOk result (λ v. IfSome (S.left source.old) (λ bytes. v.items ≡ take (MOST_BUILT + 1) bytes)) }
+fn read_front<S: Source>(
+    alloc: Global,
+    source: &mut S,
+    most: usize,
+) -> Result<Vec<u8>, WorldFault>
+    requires { most < 2 ^ 32 }
+    ensures bytes { IfOk result (λ v. IfSome (S.left source.old) (λ bytes. v.items ≡ take (most + 1) bytes)) }
     ensures cause { HasCause (S.faults source.old) (S.faults source.new) result }
 {
     let mut bytes = Vec::new(alloc);
     let mut piece = buffer(alloc)?;
-    while bytes.len() <= MOST_BUILT {
-        let room = PIECE.min(MOST_BUILT + 1 - bytes.len());
+    while bytes.len() <= most {
+        let room = PIECE.min(most + 1 - bytes.len());
         let n = read_more(source, &mut piece[..room], &mut bytes)?;
         if n == 0 {
             return Ok(bytes);
@@ -76,13 +82,15 @@ fn read_front<S: Source>(alloc: Global, source: &mut S) -> Result<Vec<u8>, World
     Ok(bytes)
 }
 
-/// The bytes of a capture, up to one past the most that are taken: they ask for what the whole file asks for.
-pub(crate) fn read_capture<S: Shelf>(
+/// The bytes of a file, up to one past the most that are taken.
+pub(crate) fn read_file<S: Shelf>(
     alloc: Global,
     shelf: &mut S,
     name: &str,
+    most: usize,
 ) -> Result<Vec<u8>, Status>
-    ensures verdict { (plan : Plan) → IfOk result (λ v. IfSome (told_file (S.files shelf.old) name.now) (λ bytes. verdict_of plan bytes ≡ verdict_of plan v.items)) }
+    requires { most < 2 ^ 32 }
+    ensures front { IfOk result (λ v. IfSome (told_file (S.files shelf.old) name.now) (λ bytes. v.items ≡ take (most + 1) bytes)) }
     ensures there { OnOk result (IsThere (S.files shelf.old) name.now) }
     ensures files { S.files shelf.new ≡ S.files shelf.old }
     ensures kinds { IfErr result (λ e. (e ≡ Status.Memory) ⊎ (e ≡ Status.ReadFault)) }
@@ -95,12 +103,30 @@ pub(crate) fn read_capture<S: Shelf>(
         Ok(source) => source,
         Err(fault) => return Err(status_of_read(fault)),
     };
-    let bytes = read_front(alloc, &mut source);
+    let bytes = read_front(alloc, &mut source, most);
     shelf.end_read(name, source);
     match bytes {
         Ok(bytes) => Ok(bytes),
         Err(fault) => Err(status_of_read(fault)),
     }
+}
+
+/// The bytes of a capture, up to one past the most that are taken: they ask for what the whole file asks for.
+pub(crate) fn read_capture<S: Shelf>(
+    alloc: Global,
+    shelf: &mut S,
+    name: &str,
+) -> Result<Vec<u8>, Status>
+    ensures asked { (s : Settings) → is_built s ≡ true
+        → IfOk result (λ v. IfSome (S.files shelf.old) (λ files. asked_of s (file_of files name.now) ≡ verdict_of s v.items)) }
+    ensures files { S.files shelf.new ≡ S.files shelf.old }
+    ensures kinds { IfErr result (λ e. (e ≡ Status.Memory) ⊎ (e ≡ Status.ReadFault)) }
+    ensures cause { IsErrOf result Status.ReadFault → Rose (S.read_faults shelf.old name.now) (S.read_faults shelf.new name.now) }
+    ensures read_later { (other : List ℕ) → S.read_faults shelf.old other ≤ S.read_faults shelf.new other }
+    ensures write_later { (other : List ℕ) → S.write_faults shelf.old other ≤ S.write_faults shelf.new other }
+    ensures open_files { S.open_files shelf.new ≡ S.open_files shelf.old }
+{
+    read_file(alloc, shelf, name, MOST_BUILT)
 }
 
 /// Makes a file of that text.

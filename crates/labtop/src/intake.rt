@@ -8,7 +8,7 @@ ghost use Rattle.streamdefs.specs.Report.{records_of};
 use crate::memory::Memory;
 use crate::counts::RecordCounts;
 use crate::found::{Found, found_in};
-use crate::setup::Setup;
+use scapconf::Settings;
 use datagrams::Datagram;
 use pcapfile::{Frame, Link};
 use std::alloc::Global;
@@ -35,15 +35,15 @@ fn moment_of_first(frames: &[Frame]) -> u64
 /// What the records of a link are, where no segment of TCP is taken.
 pub(crate) fn intake_of<'a>(
     alloc: Global,
-    setup: &Setup,
+    settings: &Settings,
     link: Link,
     frames: &'a [Frame],
 ) -> Result<Option<Intake<'a>>, Memory>
     requires few { length frames.now < 2 ^ 32 }
     requires short { sum_by (λ f. length f.bytes) frames.now < 2 ^ 31 }
-    ensures segments { IfOk result (λ found. MatchOption found (has_segment (captured setup.now.filter link frames.now).packets ≡ true)
-        (λ _. has_segment (captured setup.now.filter link frames.now).packets ≡ false)) }
-    ensures captured { IfOk result (λ found. IfSome found (λ intake. captured_by intake ≡ captured setup.now.filter link frames.now)) }
+    ensures segments { IfOk result (λ found. MatchOption found (has_segment (captured settings.now.filter link frames.now).packets ≡ true)
+        (λ _. has_segment (captured settings.now.filter link frames.now).packets ≡ false)) }
+    ensures captured { IfOk result (λ found. IfSome found (λ intake. captured_by intake ≡ captured settings.now.filter link frames.now)) }
     ensures counted { IfOk result (λ found. IfSome found (λ intake. records_of intake.counts ≡ length frames.now)) }
     ensures fits { IfOk result (λ found. IfSome found (λ intake. sum_by (λ p. length p.payload.now) intake.packets.items ≤ sum_by (λ f. length f.bytes) frames.now)) }
 {
@@ -55,7 +55,7 @@ pub(crate) fn intake_of<'a>(
     for frame in frames {
         number += 1;
         last = frame.moment.max(last);
-        let Some(found) = found_in(setup, number, last, link, frame) else {
+        let Some(found) = found_in(settings, number, last, link, frame) else {
             return Ok(None);
         };
         counts.add(&found);

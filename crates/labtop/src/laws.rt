@@ -3,6 +3,9 @@ ghost use Rattle.std.specs.Prelude.{◌≡◌, ◌+◌, ◌<◌, ◌≤◌, ℕ,
 ghost use Rattle.capfilter.specs.Expr.{Expr};
 ghost use Rattle.histbook.specs.declared.look_entry.LookEntry.{LookEntry};
 ghost use Rattle.labtop.specs.Scapconf.{Fate, captured, fate_of, fates, last_clock};
+ghost use Rattle.labtop.specs.Settings.{is_built, terms_of};
+ghost use Rattle.scapconf.specs.declared.settings.Settings.{Settings};
+ghost use Rattle.datagrams.specs.Flow.{plain};
 ghost use Rattle.pcapfile.specs.declared.frame.Frame.{Frame};
 ghost use Rattle.pcapfile.specs.declared.link.Link.{Link};
 ghost use Rattle.porthdr.specs.Transport.{kind_of};
@@ -29,6 +32,12 @@ pub fn a_refused_look_found_its_mark_passed()
         → mark_for terms c ask < look.look.found + look.asked }
     ensures granted { (terms : Terms) (c : Convo) (look : LookEntry) (ask : Ask) → IsLookFor terms c look ask → look.granted ≡ true
         → look.look.found + look.asked ≤ mark_for terms c ask }
+{}
+
+/// What is built of settings is all that they say: no part of them is left out of the run that the headline speaks of.
+#[tactic(auto, using(crate::proofs::LawLemmas::built_whole))]
+pub fn built_settings_are_run_as_they_are()
+    ensures { (s : Settings) → is_built s ≡ true → plain (terms_of s) ≡ terms_of s }
 {}
 
 /// Each record of a capture is counted once.

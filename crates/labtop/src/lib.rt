@@ -4,6 +4,7 @@
 //! (keys), datagrams (the replay), histbook (the journal), prio_budget (the marks), the definitions of streamdefs, evring, and itoa.
 #![tactic(auto)]
 
+mod built;
 mod capture;
 mod counts;
 mod drill;
@@ -18,7 +19,7 @@ mod outcome;
 mod put;
 mod report;
 pub mod rows;
-mod setup;
+mod settings_file;
 mod summary;
 mod top;
 mod totals;

@@ -1,7 +1,7 @@
 // The names of the output files.
 ghost use Rattle.std.specs.Prelude.{◌≡◌, ◌++◌, IfOk};
 ghost use Rattle.std.specs.String.{string_bytes};
-ghost use Rattle.labtop.specs.Names.{delivery_name, report_name};
+ghost use Rattle.labtop.specs.Names.{delivery_name, match_name, report_name};
 
 use std::alloc::{AllocError, Global};
 
@@ -25,4 +25,11 @@ pub(crate) fn name_of_report(alloc: Global, out: &str) -> Result<String, AllocEr
     ensures { IfOk result (λ name. string_bytes name ≡ report_name out.now) }
 {
     named(alloc, out, ".report")
+}
+
+/// The file of the numbers that match.
+pub(crate) fn name_of_matches(alloc: Global, out: &str) -> Result<String, AllocError>
+    ensures { IfOk result (λ name. string_bytes name ≡ match_name out.now) }
+{
+    named(alloc, out, ".match")
 }

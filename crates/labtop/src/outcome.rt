@@ -5,13 +5,13 @@ ghost use Rattle.labtop.specs.Drill.{of_captured, verdict_of};
 ghost use Rattle.labtop.specs.Found.{captured_by};
 ghost use Rattle.labtop.specs.Gives.{Gives, HasTexts};
 ghost use Rattle.labtop.specs.Scapconf.{captured};
-ghost use Rattle.labtop.specs.Settings.{plan_of};
+ghost use Rattle.labtop.specs.Settings.{terms_of};
 ghost use Rattle.streamdefs.specs.Lists.{total};
 ghost use Rattle.streamdefs.specs.Report.{records_of};
 
 use crate::capture::{MOST_BUILT, whole_frames};
 use crate::intake::{Intake, intake_of};
-use crate::setup::Setup;
+use scapconf::Settings;
 use crate::summary::report;
 use crate::memory::Memory;
 use scapconf::Status;
@@ -29,16 +29,16 @@ pub(crate) struct Outcome {
 }
 
 /// The files of what a capture's records are.
-fn outcome_with(alloc: Global, setup: &Setup, intake: &Intake<'_>) -> Result<Outcome, Memory>
+fn outcome_with(alloc: Global, settings: &Settings, intake: &Intake<'_>) -> Result<Outcome, Memory>
     requires few { records_of intake.now.counts < 2 ^ 64 }
     requires fits { total (λ p. length p.payload.now) intake.now.packets.items < 2 ^ 32 }
-    ensures { (first : ℕ) → IsCapture (plan_of setup.now).terms first (map packet_for intake.now.packets.items) → intake.now.last < first + setup.now.idle
-        → IfOk result (HasTexts (plan_of setup.now).terms (captured_by intake.now)) }
+    ensures { (first : ℕ) → IsCapture (terms_of settings.now) first (map packet_for intake.now.packets.items) → intake.now.last < first + settings.now.set.shape.idle
+        → IfOk result (HasTexts (terms_of settings.now) (captured_by intake.now)) }
 {
     let (_, replayed) = replay_all(
         alloc,
-        &setup.marks,
-        setup.chunk,
+        &settings.set.marks,
+        u64::from(settings.set.shape.chunk),
         &intake.packets,
         intake.last,
     );
@@ -52,25 +52,25 @@ fn outcome_with(alloc: Global, setup: &Setup, intake: &Intake<'_>) -> Result<Out
 }
 
 /// The files of a capture's records.
-fn outcome_of(alloc: Global, setup: &Setup, link: Link, frames: &[Frame]) -> Result<Outcome, Status>
+fn outcome_of(alloc: Global, settings: &Settings, link: Link, frames: &[Frame]) -> Result<Outcome, Status>
     requires few { length frames.now < 2 ^ 32 }
     requires fits { sum_by (λ f. length f.bytes) frames.now < 2 ^ 31 }
-    ensures { Gives (plan_of setup.now).terms result (of_captured setup.now.idle (captured setup.now.filter link frames.now)) }
+    ensures { Gives (terms_of settings.now) result (of_captured settings.now.set.shape.idle (captured settings.now.filter link frames.now)) }
 {
-    let found = intake_of(alloc, setup, link, frames)?;
+    let found = intake_of(alloc, settings, link, frames)?;
     let Some(intake) = found else {
         return Err(Status::Unbuilt);
     };
-    if intake.last.saturating_sub(intake.first) >= setup.idle {
+    if intake.last.saturating_sub(intake.first) >= settings.set.shape.idle {
         return Err(Status::Unbuilt);
     }
-    Ok(outcome_with(alloc, setup, &intake)?)
+    Ok(outcome_with(alloc, settings, &intake)?)
 }
 
 /// The files of a capture.
 #[tactic(auto, unfolding(crate::specs::Drill::verdict_of))]
-pub(crate) fn outcome_for(alloc: Global, setup: &Setup, bytes: &[u8]) -> Result<Outcome, Status>
-    ensures { Gives (plan_of setup.now).terms result (verdict_of (plan_of setup.now) bytes.now) }
+pub(crate) fn outcome_for(alloc: Global, settings: &Settings, bytes: &[u8]) -> Result<Outcome, Status>
+    ensures { Gives (terms_of settings.now) result (verdict_of settings.now bytes.now) }
 {
     let head = match FileHead::read(bytes) {
         Ok(head) => head,
@@ -83,5 +83,5 @@ pub(crate) fn outcome_for(alloc: Global, setup: &Setup, bytes: &[u8]) -> Result<
     let Some(frames) = found else {
         return Err(Status::Unbuilt);
     };
-    outcome_of(alloc, setup, head.link, &frames)
+    outcome_of(alloc, settings, head.link, &frames)
 }

@@ -5,13 +5,13 @@ ghost use Rattle.std.specs.Prelude.{◌≡◌, [], ◌∷◌, take};
 ghost use Rattle.capfilter.specs.declared.prim.Primitive.TheVariants.{Tcp, Udp};
 ghost use Rattle.labtop.specs.Rows.{file_head, one_datagram, one_segment, mixed, late, begins_skipped, packet_at, filtered_by};
 ghost use Rattle.labtop.specs.Drill.{verdict_of, Delivers, Refused, NotBuilt};
-ghost use Rattle.labtop.specs.Settings.{default_marks, plan_with};
+ghost use Rattle.scapconf.specs.Defaults.{default_settings};
 
 use pcapfile::HeadFault;
 
 /// A capture of one datagram is delivered.
 pub fn one_datagram_is_delivered()
-    ensures { verdict_of (plan_with default_marks) one_datagram ≡ Delivers (record {
+    ensures { verdict_of default_settings one_datagram ≡ Delivers (record {
       packets = packet_at 1 1000005000 ∷ [];
       counts = record { accepted = 1; filtered = 0; other = 0; fragment = 0; short = 0 };
       first = 1000005000;
@@ -21,7 +21,7 @@ pub fn one_datagram_is_delivered()
 
 /// Skipped records are counted by their kind; they have numbers, and their moments count for the clock.
 pub fn skipped_records_are_counted()
-    ensures { verdict_of (plan_with default_marks) mixed ≡ Delivers (record {
+    ensures { verdict_of default_settings mixed ≡ Delivers (record {
       packets = packet_at 1 1000005000 ∷ packet_at 4 9000005000 ∷ [];
       counts = record { accepted = 2; filtered = 0; other = 1; fragment = 1; short = 1 };
       first = 1000005000;
@@ -37,12 +37,12 @@ pub fn packets_are_filtered()
       first = 1000005000;
       last = 9000005000;
     }) }
-    ensures all { verdict_of (filtered_by Udp) mixed ≡ verdict_of (plan_with default_marks) mixed }
+    ensures all { verdict_of (filtered_by Udp) mixed ≡ verdict_of default_settings mixed }
 {}
 
 /// A segment of TCP is not built yet, but where it is filtered.
 pub fn a_segment_is_not_built()
-    ensures taken { verdict_of (plan_with default_marks) one_segment ≡ NotBuilt }
+    ensures taken { verdict_of default_settings one_segment ≡ NotBuilt }
     ensures filtered { verdict_of (filtered_by Udp) one_segment ≡ Delivers (record {
       packets = [];
       counts = record { accepted = 0; filtered = 1; other = 0; fragment = 0; short = 0 };
@@ -53,19 +53,19 @@ pub fn a_segment_is_not_built()
 
 /// A skipped record can be the one that is too late, or the one from which the idle time counts.
 pub fn skipped_records_have_moments()
-    ensures late { verdict_of (plan_with default_marks) (late 301) ≡ NotBuilt }
-    ensures in_time { verdict_of (plan_with default_marks) (late 300) ≡ Delivers (record {
+    ensures late { verdict_of default_settings (late 301) ≡ NotBuilt }
+    ensures in_time { verdict_of default_settings (late 300) ≡ Delivers (record {
       packets = packet_at 1 1000005000 ∷ [];
       counts = record { accepted = 1; filtered = 0; other = 1; fragment = 0; short = 0 };
       first = 1000005000;
       last = 300000005000;
     }) }
-    ensures early { verdict_of (plan_with default_marks) (begins_skipped 301) ≡ NotBuilt }
+    ensures early { verdict_of default_settings (begins_skipped 301) ≡ NotBuilt }
 {}
 
 /// A capture without a record is delivered.
 pub fn an_empty_capture_is_delivered()
-    ensures { verdict_of (plan_with default_marks) file_head ≡ Delivers (record {
+    ensures { verdict_of default_settings file_head ≡ Delivers (record {
       packets = [];
       counts = record { accepted = 0; filtered = 0; other = 0; fragment = 0; short = 0 };
       first = 0;
@@ -75,15 +75,5 @@ pub fn an_empty_capture_is_delivered()
 
 /// A front of a file header is short.
 pub fn a_short_file_is_refused()
-    ensures { verdict_of (plan_with default_marks) (take 10 file_head) ≡ Refused HeadFault.Short }
-{}
-
-/// A drill that is given no settings has a budget of 64 MiB, of which half may be filled before priorities count, chunks of 16 KiB, an idle time of 300 s, and no filter.
-pub fn settings_by_default()
-    ensures limit { (plan_with default_marks).terms.marks.limit ≡ 67108864 }
-    ensures base { (plan_with default_marks).terms.marks.base ≡ 33554432 }
-    ensures priorities { (plan_with default_marks).terms.marks.priorities ≡ 1 }
-    ensures chunk { (plan_with default_marks).terms.chunk ≡ 16384 }
-    ensures idle { (plan_with default_marks).terms.idle ≡ 300000000000 }
-    ensures filter { (plan_with default_marks).filter ≡ None }
+    ensures { verdict_of default_settings (take 10 file_head) ≡ Refused HeadFault.Short }
 {}

@@ -1,14 +1,23 @@
 // The words of the command line.
 ghost use Rattle.std.specs.Prelude.{◌≡◌, IfOk};
-ghost use Rattle.labtop.specs.Words.{is_later_command, is_later_option, has_later, is_positional, is_pair, pair_of, command_of, texts, Means};
+ghost use Rattle.labtop.specs.Words.{Means, command_of, drill_of, drill_words, has_later, is_drill, is_later_command, is_later_option, is_match, is_option, is_output, is_positional, match_words, texts, told_word};
 
-use crate::names::{name_of_delivery, name_of_report};
+use crate::names::{name_of_delivery, name_of_matches, name_of_report};
 use std::alloc::{AllocError, Global};
 
 /// What the words ask for.
 #[derive(Clone, Copy)]
 pub(crate) enum Asked<'a> {
-    Drill { capture: &'a str, out: &'a str },
+    Drill {
+        settings: Option<&'a str>,
+        capture: &'a str,
+        out: &'a str,
+    },
+    Match {
+        filter: &'a str,
+        capture: &'a str,
+        out: &'a str,
+    },
     Wrong,
     Later,
 }
@@ -26,14 +35,14 @@ fn can_be_positional(word: &str) -> bool
 fn is_command_of_later(word: &str) -> bool
     ensures { result ≡ is_later_command word.now }
 {
-    word == "match" || word == "make" || word == "audit"
+    word == "make" || word == "audit"
 }
 
 #[tactic(auto, unfolding(crate::specs::Words::is_later_option))]
 fn is_option_of_later(word: &str) -> bool
     ensures { result ≡ is_later_option word.now }
 {
-    word == "--settings" || word == "--cores" || word == "--workers" || word == "--seed"
+    word == "--cores" || word == "--workers" || word == "--seed"
 }
 
 fn has_option_of_later(words: &[&str]) -> bool
@@ -45,34 +54,116 @@ fn has_option_of_later(words: &[&str]) -> bool
     }
 }
 
-#[tactic(auto, unfolding(crate::specs::Words::is_pair))]
-fn are_pair(alloc: Global, capture: &str, out: &str) -> Result<bool, AllocError>
-    ensures { IfOk result (λ b. b ≡ is_pair capture.now out.now) }
+/// Whether a drill would create a file of that name.
+#[tactic(auto, unfolding(crate::specs::Words::is_output))]
+fn is_output(alloc: Global, out: &str, name: &str) -> Result<bool, AllocError>
+    ensures { IfOk result (λ b. b ≡ is_output out.now name.now) }
 {
     let delivery = name_of_delivery(alloc, out)?;
     let report = name_of_report(alloc, out)?;
-    Ok(
-        can_be_positional(capture)
-            && can_be_positional(out)
-            && delivery.as_str() != capture
-            && report.as_str() != capture,
-    )
+    Ok(delivery.as_str() == name || report.as_str() == name)
 }
 
-fn pair_in<'a>(alloc: Global, words: &[&'a str]) -> Result<Asked<'a>, AllocError>
-    ensures { IfOk result (λ a. Means a (pair_of (texts words.now))) }
+fn is_output_or_none(alloc: Global, out: &str, name: Option<&str>) -> Result<bool, AllocError>
+    ensures { IfOk result (λ b. b ≡ is_option out.now (told_word name.entry)) }
+{
+    match name {
+        None => Ok(false),
+        Some(name) => is_output(alloc, out, name),
+    }
+}
+
+#[tactic(auto, unfolding(crate::specs::Words::is_drill))]
+fn are_of_drill(
+    alloc: Global,
+    settings: Option<&str>,
+    capture: &str,
+    out: &str,
+) -> Result<bool, AllocError>
+    ensures { IfOk result (λ b. b ≡ is_drill (told_word settings.entry) capture.now out.now) }
+{
+    let over_capture = is_output(alloc, out, capture)?;
+    let over_settings = is_output_or_none(alloc, out, settings)?;
+    Ok(can_be_positional(capture)
+        && can_be_positional(out)
+        && !over_capture
+        && !over_settings)
+}
+
+/// A drill with these settings, by the words behind its options.
+fn drill_in<'a>(
+    alloc: Global,
+    settings: Option<&'a str>,
+    words: &[&'a str],
+) -> Result<Asked<'a>, AllocError>
+    ensures { IfOk result (λ a. Means a (drill_of (told_word settings.entry) (texts words.now))) }
 {
     match words {
         [] => Ok(Asked::Wrong),
         [_] => Ok(Asked::Wrong),
         [capture, out] => {
-            if are_pair(alloc, capture, out)? {
-                Ok(Asked::Drill { capture, out })
+            if are_of_drill(alloc, settings, capture, out)? {
+                Ok(Asked::Drill {
+                    settings,
+                    capture,
+                    out,
+                })
             } else {
                 Ok(Asked::Wrong)
             }
         }
         [_, _, _, ..] => Ok(Asked::Wrong),
+    }
+}
+
+fn drill_asked<'a>(alloc: Global, words: &[&'a str]) -> Result<Asked<'a>, AllocError>
+    ensures { IfOk result (λ a. Means a (drill_words (texts words.now))) }
+{
+    let [option, settings, rest @ ..] = words else {
+        return Ok(Asked::Wrong);
+    };
+    if *option == "--settings" {
+        drill_in(alloc, Some(settings), rest)
+    } else {
+        drill_in(alloc, None, words)
+    }
+}
+
+#[tactic(auto, unfolding(crate::specs::Words::is_match))]
+fn are_of_match(
+    alloc: Global,
+    filter: &str,
+    capture: &str,
+    out: &str,
+) -> Result<bool, AllocError>
+    ensures { IfOk result (λ b. b ≡ is_match filter.now capture.now out.now) }
+{
+    let matches = name_of_matches(alloc, out)?;
+    Ok(can_be_positional(filter)
+        && can_be_positional(capture)
+        && can_be_positional(out)
+        && matches.as_str() != capture)
+}
+
+fn match_asked<'a>(alloc: Global, words: &[&'a str]) -> Result<Asked<'a>, AllocError>
+    ensures { IfOk result (λ a. Means a (match_words (texts words.now))) }
+{
+    match words {
+        [] => Ok(Asked::Wrong),
+        [_] => Ok(Asked::Wrong),
+        [_, _] => Ok(Asked::Wrong),
+        [filter, capture, out] => {
+            if are_of_match(alloc, filter, capture, out)? {
+                Ok(Asked::Match {
+                    filter,
+                    capture,
+                    out,
+                })
+            } else {
+                Ok(Asked::Wrong)
+            }
+        }
+        [_, _, _, _, ..] => Ok(Asked::Wrong),
     }
 }
 
@@ -86,11 +177,14 @@ pub(crate) fn asked_in<'a>(alloc: Global, words: &[&'a str]) -> Result<Asked<'a>
     if is_command_of_later(command) {
         return Ok(Asked::Later);
     }
-    if *command != "drill" {
-        return Ok(Asked::Wrong);
+    if *command == "drill" {
+        if has_option_of_later(rest) {
+            return Ok(Asked::Later);
+        }
+        return drill_asked(alloc, rest);
     }
-    if has_option_of_later(rest) {
-        return Ok(Asked::Later);
+    if *command == "match" {
+        return match_asked(alloc, rest);
     }
-    pair_in(alloc, rest)
+    Ok(Asked::Wrong)
 }

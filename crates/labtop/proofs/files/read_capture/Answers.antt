@@ -1,5 +1,5 @@
-use Rattle.labtop.proofs.ReadLemmas.{verdict_read}
+use Rattle.labtop.proofs.ReadLemmas.{asked_of_read}
 use Rattle.labtop.proofs.files.read_capture.Goals as goal
 
-pub returns-in-Ok-bytes-clause-verdict : goal.returns-in-Ok-bytes-clause-verdict
-returns-in-Ok-bytes-clause-verdict g c = λ plan. verdict_read plan _ _ _ c.in-Ok.ensures.left c.in-Ok-bytes.ensures.bytes
+pub returns-clause-asked : goal.returns-clause-asked
+returns-clause-asked g c = λ s built. asked_of_read (λ v. v.items) s _ _ _ built c.read_file.ensures.there c.read_file.ensures.front

@@ -16,7 +16,7 @@ loop-frame-init c = record {
 
 pub returns-in_default-clause-segments : goal.returns-in_default-clause-segments
 returns-in_default-clause-segments c =
-    segment_found c.args.setup.now.filter c.args.link c.args.frames.now c.loop-frame.frame-index (c.loop-frame.number + 1) c.loop-frame.last c.max-last.result c.frame-item.result
+    segment_found c.args.settings.now.filter c.args.link c.args.frames.now c.loop-frame.frame-index (c.loop-frame.number + 1) c.loop-frame.last c.max-last.result c.frame-item.result
     (omega arith) (search rules) (omega arith) c.loop-frame.invariant.last c.max-last.ensures c.in_default.ensures
 
 pub loop-frame-preserved : goal.loop-frame-preserved
@@ -29,7 +29,7 @@ loop-frame-preserved c =
     ]
     in record {
       stand =
-          stand_more c.args.setup.now.filter c.args.link c.args.frames.now c.loop-frame.frame-index (c.loop-frame.number + 1) c.loop-frame.last c.max-last.result c.frame-item.result
+          stand_more c.args.settings.now.filter c.args.link c.args.frames.now c.loop-frame.frame-index (c.loop-frame.number + 1) c.loop-frame.last c.max-last.result c.frame-item.result
           c.in-Some.found _ _ c.loop-frame.counts c.add.new.self (omega arith) (search rules) (omega arith) c.loop-frame.invariant.last c.max-last.ensures c.in-Some.ensures
           more c.add.ensures c.loop-frame.invariant.stand;
       last = clock_more c.args.frames.now c.loop-frame.frame-index c.loop-frame.last c.max-last.result c.frame-item.result (omega arith) (search rules) c.loop-frame.invariant.last c.max-last.ensures;
@@ -39,5 +39,5 @@ loop-frame-preserved c =
 
 pub returns-clause-fits : goal.returns-clause-fits
 returns-clause-fits c =
-    kept-fit c.args.setup.now.filter c.args.link c.args.frames.now c.loop-frame.packets.items c.loop-frame.counts
-    (stand_whole c.args.setup.now.filter c.args.link c.args.frames.now c.loop-frame.frame-index _ _ (omega arith) c.loop-frame.invariant.stand)
+    kept-fit c.args.settings.now.filter c.args.link c.args.frames.now c.loop-frame.packets.items c.loop-frame.counts
+    (stand_whole c.args.settings.now.filter c.args.link c.args.frames.now c.loop-frame.frame-index _ _ (omega arith) c.loop-frame.invariant.stand)

@@ -5,7 +5,7 @@ use Rattle.datagrams.specs.declared.datagram.Datagram.{Datagram}
 use Rattle.streamdefs.specs.Report.{records_of}
 use Rattle.labtop.specs.Found.{captured_by}
 use Rattle.labtop.specs.Scapconf.{captured, has_segment}
-use Rattle.labtop.specs.Settings.{plan_of}
+use Rattle.labtop.specs.Settings.{terms_of}
 use Rattle.labtop.proofs.OutcomeLemmas.{given_by, totals_agree}
 use Rattle.labtop.proofs.outcome.outcome_of.Goals as goal
 
@@ -17,7 +17,7 @@ outcome_with-requires c =
 
 pub returns : goal.returns
 returns c =
-    let udp : has_segment (captured c.args.setup.now.filter c.args.link c.args.frames.now).packets ≡ false = rw c.in-Some.is at c.in_ok-found.ensures.segments in
-    let same : captured_by c.in-Some.intake ≡ captured c.args.setup.now.filter c.args.link c.args.frames.now = rw c.in-Some.is at c.in_ok-found.ensures.captured in
-    let brief : nat_le (c.in-Some.intake.first + c.args.setup.now.idle) c.in-Some.intake.last ≡ false = grind (arith, nat_tests) in
-    given_by (plan_of c.args.setup.now).terms (Ok c.in_ok-outcome_with.field-0) c.in-Some.intake c.args.setup.now.filter c.args.link c.args.frames.now same udp brief c.in_ok-outcome_with.ensures
+    let udp : has_segment (captured c.args.settings.now.filter c.args.link c.args.frames.now).packets ≡ false = rw c.in-Some.is at c.in_ok-found.ensures.segments in
+    let same : captured_by c.in-Some.intake ≡ captured c.args.settings.now.filter c.args.link c.args.frames.now = rw c.in-Some.is at c.in_ok-found.ensures.captured in
+    let brief : nat_le (c.in-Some.intake.first + c.args.settings.now.set.shape.idle) c.in-Some.intake.last ≡ false = grind (arith, nat_tests) in
+    given_by (terms_of c.args.settings.now) (Ok c.in_ok-outcome_with.field-0) c.in-Some.intake c.args.settings.now.filter c.args.link c.args.frames.now same udp brief c.in_ok-outcome_with.ensures

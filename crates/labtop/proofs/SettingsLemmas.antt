@@ -1,0 +1,99 @@
+-- What the front of a text of settings says of the whole text.
+use Rattle.std.proofs.Common.{◌≡◌, ℕ, ◌+◌, ◌<◌, ◌≤◌, List, length, take, refl, ap, sym, ◌∙◌, subst, inl, inr, arith, length-take}
+use Rattle.std.specs.Prelude.{Option, Some, None, IfSome, IsSome, IsSomeAnd, Result, Ok, Err, IfOk, IfErr, IsErrOf}
+use Rattle.std.proofs.lemmas.Bool.{cases_lt}
+use Rattle.std.proofs.lemmas.List.{take_all}
+use Rattle.scap_world.specs.Files.{File, file_of, told_file, IsThere}
+use Rattle.scapconf.specs.declared.settings.Settings.{Settings}
+use Rattle.scapconf.specs.declared.settings_error.SettingsError.{SettingsError}
+use Rattle.scapconf.specs.declared.settings_error.SettingsError.TheVariants as errors
+use Rattle.scapconf.specs.declared.settings_error.SettingsKind.{SettingsKind}
+use Rattle.scapconf.specs.declared.status.Status.{Status}
+use Rattle.scapconf.specs.declared.status.Status.TheVariants.{Done, Memory, Usage, Settings as Faulty, ReadFault, WriteFault, NotPcap, BadRecord, CutShort, TooLong, Unbuilt}
+use Rattle.scapconf.specs.Causes.{status_for}
+use Rattle.scapconf.specs.Faults.{IsFault}
+use Rattle.scapconf.specs.Parser.{IsMemoryOrFault}
+use Rattle.scapconf.specs.Says.{Reads}
+use Rattle.scapconf.proofs.LawLemmas.{one_meaning, read_or_refused}
+use Rattle.labtop.specs.declared.settings_file.TheConstants.{MOST_TEXT}
+use Rattle.labtop.specs.Answers.{RefusesSettings, RefusesText}
+use Rattle.labtop.specs.Settings.{GoesBy, HasFault}
+use Rattle.labtop.proofs.ReadLemmas.{none_there}
+
+-- a text with more bytes than are read is too long
+read_whole : (text front : List ℕ) (s : Settings) → front ≡ take (MOST_TEXT + 1) text → Reads front s → Reads text s
+read_whole text front s e h = elim (cases_lt MOST_TEXT (length text)) [
+  | inl long ↦ absurd (omega (arith, h.short, ap length e, length-take (MOST_TEXT + 1) text))
+  | inr short ↦ subst (λ (t : List ℕ). Reads t s) (e ∙ take_all (MOST_TEXT + 1) text (omega arith)) h
+]
+
+fault_whole : (text front : List ℕ) (n : ℕ) (k : SettingsKind) → front ≡ take (MOST_TEXT + 1) text → IsFault front n k → IsFault text n k
+fault_whole text front n k e (inl long) = inl (omega (arith, long.0, ap length e, length-take (MOST_TEXT + 1) text), long.1, long.2)
+fault_whole text front n k e (inr short) = subst (λ (t : List ℕ). IsFault t n k) (e ∙ take_all (MOST_TEXT + 1) text (omega (arith, short.0, ap length e, length-take (MOST_TEXT + 1) text))) (inr short)
+
+goes_at : (o : Option (List ℕ)) (front : List ℕ) (s : Settings) → IsSome o → IfSome o (λ text. front ≡ take (MOST_TEXT + 1) text) → Reads front s → IsSomeAnd o (λ text. Reads text s)
+goes_at None front s there e h = none_there there
+goes_at (Some text) front s there e h = read_whole text front s e h
+
+fault_at : (o : Option (List ℕ)) (front : List ℕ) (n : ℕ) (k : SettingsKind) → IsSome o → IfSome o (λ text. front ≡ take (MOST_TEXT + 1) text) → IsFault front n k → IsSomeAnd o (λ text. IsFault text n k)
+fault_at None front n k there e h = none_there there
+fault_at (Some text) front n k there e h = fault_whole text front n k e h
+
+goes_by_read : (files : Option (List File)) (name front : List ℕ) (s : Settings) → IsThere files name → IfSome (told_file files name) (λ text. front ≡ take (MOST_TEXT + 1) text)
+    → Reads front s → IfSome files (λ fs. GoesBy fs (Some name) s)
+goes_by_read None name front s there e h = tt
+goes_by_read (Some fs) name front s there e h = goes_at (file_of fs name) front s there e h
+
+refused_at : (files : Option (List File)) (name front : List ℕ) (n : ℕ) (k : SettingsKind) → IsThere files name → IfSome (told_file files name) (λ text. front ≡ take (MOST_TEXT + 1) text)
+    → IsFault front n k → IfSome files (λ fs. HasFault fs (Some name) n k)
+refused_at None name front n k there e h = tt
+refused_at (Some fs) name front n k there e h = fault_at (file_of fs name) front n k there e h
+
+refused_by_read : (files : Option (List File)) (name front : List ℕ) (status : Status) → IsThere files name → IfSome (told_file files name) (λ text. front ≡ take (MOST_TEXT + 1) text)
+    → RefusesText front status → RefusesSettings files (Some name) status
+refused_by_read files name front Memory there e h = tt
+refused_by_read files name front (Faulty n k) there e h = refused_at files name front n k there e h
+refused_by_read files name front ReadFault there e h = absurd h
+refused_by_read files name front Done there e h = absurd h
+refused_by_read files name front WriteFault there e h = absurd h
+refused_by_read files name front Usage there e h = absurd h
+refused_by_read files name front (NotPcap kind) there e h = absurd h
+refused_by_read files name front (BadRecord at len) there e h = absurd h
+refused_by_read files name front (CutShort bytes) there e h = absurd h
+refused_by_read files name front TooLong there e h = absurd h
+refused_by_read files name front Unbuilt there e h = absurd h
+
+pub goes_read : (files : Option (List File)) (name front : List ℕ) (r : Result Settings Status) → IsThere files name → IfSome (told_file files name) (λ text. front ≡ take (MOST_TEXT + 1) text)
+    → IfOk r (Reads front) → IfOk r (λ s. IfSome files (λ fs. GoesBy fs (Some name) s))
+goes_read files name front (Ok s) there e h = goes_by_read files name front s there e h
+goes_read files name front (Err status) there e h = tt
+
+pub refused_read : (files : Option (List File)) (name front : List ℕ) (r : Result Settings Status) → IsThere files name → IfSome (told_file files name) (λ text. front ≡ take (MOST_TEXT + 1) text)
+    → IfErr r (RefusesText front) → IfErr r (RefusesSettings files (Some name))
+refused_read files name front (Ok s) there e h = tt
+refused_read files name front (Err status) there e h = refused_by_read files name front status there e h
+
+pub never_read : (X : Type 0) (front : List ℕ) (r : Result Settings Status) → IfErr r (RefusesText front) → IsErrOf r ReadFault → X
+never_read X front r h e = absurd (let P : Result Settings Status → Type 0 = λ x. IfErr x (RefusesText front) in subst P e h)
+
+-- a text's refusal as a status
+pub refused_as : (text : List ℕ) (error : SettingsError) (status : Status) → status ≡ status_for error → IsMemoryOrFault (IsFault text) error → RefusesText text status
+refused_as text errors.Memory status is h = subst (RefusesText text) (sym is) tt
+refused_as text (errors.Fault n k) status is h = subst (RefusesText text) (sym is) h
+
+-- of one text there are one settings, and none where it has a fault
+same_at : (o : Option (List ℕ)) (s t : Settings) → IsSomeAnd o (λ text. Reads text s) → IsSomeAnd o (λ text. Reads text t) → s ≡ t
+same_at None s t g h = absurd g
+same_at (Some text) s t g h = one_meaning text s t g h
+
+pub same_settings : (files : List File) (name : Option (List ℕ)) (s t : Settings) → GoesBy files name s → GoesBy files name t → s ≡ t
+same_settings files None s t g h = g ∙ sym h
+same_settings files (Some n) s t g h = same_at (file_of files n) s t g h
+
+faultless_at : (o : Option (List ℕ)) (s : Settings) (n : ℕ) (k : SettingsKind) → IsSomeAnd o (λ text. Reads text s) → IsSomeAnd o (λ text. IsFault text n k) → ⊥
+faultless_at None s n k g h = g
+faultless_at (Some text) s n k g h = read_or_refused text s n k g h
+
+pub faultless : (files : List File) (name : Option (List ℕ)) (s : Settings) (n : ℕ) (k : SettingsKind) → GoesBy files name s → HasFault files name n k → ⊥
+faultless files None s n k g h = h
+faultless files (Some m) s n k g h = faultless_at (file_of files m) s n k g h

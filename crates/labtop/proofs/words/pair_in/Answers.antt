@@ -1,9 +1,0 @@
-use Rattle.std.proofs.Common.{arith}
-use Rattle.labtop.proofs.WordsLemmas.{wrong_pair}
-use Rattle.labtop.proofs.words.pair_in.Goals as goal
-
-pub returns-in-len3-up : goal.returns-in-len3-up
-returns-in-len3-up c = wrong_pair _ (λ e. omega arith)
-
-pub returns-in-len1 : goal.returns-in-len1
-returns-in-len1 c = wrong_pair _ (λ e. omega arith)
