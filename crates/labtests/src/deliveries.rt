@@ -5,9 +5,9 @@ use crate::captures::{
     put_record, shelf_with,
 };
 use labtop::lab_top;
-use scapconf::Status;
 use pcapfile::put_frame;
 use scap_world::{MemShelf, Memory};
+use scapconf::Status;
 use std::alloc::{AllocError, Global};
 use std::process::Abort;
 use std::test::Fail;

@@ -1,7 +1,7 @@
 use crate::captures::{DELIVERY, ONE, REPORT, WORDS, expect_files, shelf_with};
 use labtop::lab_top;
-use scapconf::Status;
 use scap_world::{FailCall, MemShelf, Memory};
+use scapconf::Status;
 use std::alloc::Global;
 use std::test::Fail;
 

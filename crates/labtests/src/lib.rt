@@ -13,9 +13,10 @@ mod deliveries;
 #[cfg(test)]
 mod faults;
 #[cfg(test)]
+mod matches;
+#[cfg(test)]
 mod refusals;
 #[cfg(test)]
 mod settings;
 #[cfg(test)]
 mod skipped;
-#[cfg(test)]

@@ -1,7 +1,7 @@
 use crate::captures::{ONE, WORDS, changed, expect_files, opened, put_record, shelf_with};
 use labtop::lab_top;
-use scapconf::Status;
 use pcapfile::{HeadFault, put_frame};
+use scapconf::Status;
 use std::alloc::Global;
 use std::test::Fail;
 

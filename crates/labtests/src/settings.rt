@@ -83,10 +83,22 @@ fn what_the_filter_refuses_is_counted_and_not_delivered(rt: HostRuntime) -> Resu
     put_record(&mut capture, alloc, 3, (1, 5000), (2, 80), b"ef")?;
     // The filter sees each packet by its own way: the second record has port 53 as its source.
     let cases = [
-        ("filter dst port 53\n", "records 3 accepted 1 filtered 2 other 0 fragment 0 short 0\n"),
-        ("filter port 53\n", "records 3 accepted 2 filtered 1 other 0 fragment 0 short 0\n"),
-        ("filter tcp\n", "records 3 accepted 0 filtered 3 other 0 fragment 0 short 0\n"),
-        ("filter udp\n", "records 3 accepted 3 filtered 0 other 0 fragment 0 short 0\n"),
+        (
+            "filter dst port 53\n",
+            "records 3 accepted 1 filtered 2 other 0 fragment 0 short 0\n",
+        ),
+        (
+            "filter port 53\n",
+            "records 3 accepted 2 filtered 1 other 0 fragment 0 short 0\n",
+        ),
+        (
+            "filter tcp\n",
+            "records 3 accepted 0 filtered 3 other 0 fragment 0 short 0\n",
+        ),
+        (
+            "filter udp\n",
+            "records 3 accepted 3 filtered 0 other 0 fragment 0 short 0\n",
+        ),
     ];
     for (text, line) in cases {
         let mut shelf = shelf_of(alloc, text.as_bytes(), &capture)?;
@@ -199,7 +211,16 @@ fn words_with_settings_are_taken_as_they_are_said(rt: HostRuntime) -> Result<(),
             Status::Usage,
         ),
         (
-            &["scaplab", "drill", "--settings", "a", "--settings", "a", "cap", "out"],
+            &[
+                "scaplab",
+                "drill",
+                "--settings",
+                "a",
+                "--settings",
+                "a",
+                "cap",
+                "out",
+            ],
             Status::Usage,
         ),
         (

@@ -4,8 +4,8 @@ use crate::captures::{
     BIG, DELIVERY, ONE, WORDS, changed, expect_files, opened, put_record, shelf_with,
 };
 use labtop::lab_top;
-use scapconf::Status;
 use pcapfile::put_frame;
+use scapconf::Status;
 use std::alloc::Global;
 use std::process::Abort;
 use std::test::Fail;

@@ -1,15 +1,15 @@
 -- The answers of a drill by the settings of a file.
-use Rattle.std.proofs.Common.{◌≡◌, ℕ, ◌+◌, ◌≤◌, min, List, refl, ap, sym, ◌∙◌, subst, ◌⊎◌, inl, inr, Bool, true, arith}
-use Rattle.std.specs.Prelude.{Option, Some, None, IfSome, MatchOption}
+use Rattle.std.proofs.Common.{◌≡◌, ℕ, ◌≤◌, List, refl, sym, ◌∙◌, subst, ◌⊎◌, inl, inr, true, arith}
+use Rattle.std.specs.Prelude.{Option, Some, None, IfSome}
 use Rattle.histbook.specs.declared.journal.Journal.{Journal}
 use Rattle.scap_world.specs.Causes.{Rose}
-use Rattle.scap_world.specs.Files.{File, file_of, told_file, told_put}
+use Rattle.scap_world.specs.Files.{File, file_of}
 use Rattle.scapconf.specs.declared.settings.Settings.{Settings}
 use Rattle.scapconf.specs.declared.status.Status.{Status}
 use Rattle.scapconf.specs.declared.status.Status.TheVariants.{Done, Memory, Usage, Settings as Faulty, ReadFault, WriteFault, NotPcap, BadRecord, CutShort, TooLong, Unbuilt}
 use Rattle.labtop.specs.Answers.{Allows, By, Completes, IsAnswer, IsDone, IsDoneBy, IsOfDrill, LeavesBy, LeavesParts, RefusesSettings}
 use Rattle.labtop.specs.Drill.{Verdict, Delivers, Refused, NotBuilt, Missing, asked_of}
-use Rattle.labtop.specs.Settings.{GoesBy, HasFault, is_built, terms_of}
+use Rattle.labtop.specs.Settings.{GoesBy, is_built, terms_of}
 use Rattle.labtop.proofs.SettingsLemmas.{faultless, same_settings}
 
 answer_at : (s : Settings) (files : List File) (name : Option (List ℕ)) (capture : List ℕ) (status : Status) → GoesBy files name s → IsOfDrill status

@@ -12,3 +12,6 @@ pub mod TotalsLemmas
 pub mod LawLemmas
 pub mod SettingsLemmas
 pub mod AnswerLemmas
+pub mod MatchingLemmas
+pub mod MatchLemmas
+pub mod MatchByLemmas

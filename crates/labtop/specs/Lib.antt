@@ -10,3 +10,6 @@ pub mod Answers
 pub mod Gives
 pub mod ReportLines
 pub mod Rows
+pub mod Matching
+pub mod Matched
+pub mod MatchAnswers

@@ -10,6 +10,6 @@ delivery_name out = out ++ codes ".0"
 abbrev pub report_name : List ℕ → List ℕ
 report_name out = out ++ codes ".report"
 
--- the file of the numbers that match
+-- the file of a match
 abbrev pub match_name : List ℕ → List ℕ
 match_name out = out ++ codes ".match"

@@ -1,6 +1,5 @@
 -- docs/RULES.md, "Settings".
 use Rattle.std.specs.Prelude.{◌≡◌, ℕ, Bool, true, false, ◌&&◌, nat_eq, List, [], ◌∷◌, Option, Some, None, if◌then◌else◌, IsSomeAnd}
-use Rattle.capfilter.specs.Expr.{Expr}
 use Rattle.capfilter.specs.Truth.{truth}
 use Rattle.cutclass.specs.InForce.{Class}
 use Rattle.cutclass.specs.declared.class_rule.ClassRule.{ClassRule}
@@ -14,7 +13,6 @@ use Rattle.scapconf.specs.declared.settings_error.SettingsKind.{SettingsKind}
 use Rattle.scapconf.specs.Defaults.{default_settings}
 use Rattle.scapconf.specs.Faults.{IsFault}
 use Rattle.scapconf.specs.Says.{Reads}
-use Rattle.streamdefs.specs.Both.{Both}
 use Rattle.streamdefs.specs.Terms.{Terms}
 use Rattle.streamkey.specs.declared.key.Key.{Key}
 use Rattle.streamkey.specs.declared.toward.Toward.{Toward}

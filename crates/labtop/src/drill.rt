@@ -9,11 +9,11 @@ ghost use Rattle.labtop.specs.Headline.{IsEmpty};
 ghost use Rattle.labtop.specs.Settings.{GoesBy, is_built, terms_of};
 ghost use Rattle.labtop.specs.Words.{told_word};
 
+use crate::LabDone;
 use crate::built::is_built;
 use crate::files::{read_capture, write_file};
 use crate::names::{name_of_delivery, name_of_report};
 use crate::outcome::{Outcome, outcome_for};
-use crate::LabDone;
 use crate::settings_file::settings_by;
 use scap_world::Shelf;
 use scapconf::{Settings, Status};

@@ -9,9 +9,9 @@ ghost use Rattle.labtop.specs.Drill.{asked_of, verdict_of};
 ghost use Rattle.labtop.specs.Settings.{is_built};
 ghost use Rattle.scapconf.specs.declared.settings.Settings.{Settings};
 
-use scapconf::Status;
 use crate::capture::MOST_BUILT;
 use scap_world::{Shelf, Sink, Source, WorldFault, write_whole};
+use scapconf::Status;
 use std::alloc::{AllocError, Global};
 
 /// The most bytes of one read.
@@ -26,7 +26,7 @@ fn status_of_write(fault: WorldFault) -> Status
     }
 }
 
-fn status_of_read(fault: WorldFault) -> Status
+pub(crate) fn status_of_read(fault: WorldFault) -> Status
     ensures { result ≡ reads_status fault }
 {
     match fault {
@@ -36,14 +36,14 @@ fn status_of_read(fault: WorldFault) -> Status
 }
 
 /// Room for one read.
-fn buffer(alloc: Global) -> Result<Vec<u8>, AllocError>
+pub(crate) fn buffer(alloc: Global) -> Result<Vec<u8>, AllocError>
     ensures { IfOk result (λ v. vec_len v ≡ PIECE) }
 {
     vec![in alloc; 0u8; PIECE]
 }
 
 /// Reads once, behind the bytes that were read.
-fn read_more<S: Source>(
+pub(crate) fn read_more<S: Source>(
     source: &mut S,
     piece: &mut [u8],
     bytes: &mut Vec<u8>,
@@ -61,11 +61,7 @@ fn read_more<S: Source>(
 }
 
 /// The first bytes of a source, up to one past the most that are taken.
-fn read_front<S: Source>(
-    alloc: Global,
-    source: &mut S,
-    most: usize,
-) -> Result<Vec<u8>, WorldFault>
+fn read_front<S: Source>(alloc: Global, source: &mut S, most: usize) -> Result<Vec<u8>, WorldFault>
     requires { most < 2 ^ 32 }
     ensures bytes { IfOk result (λ v. IfSome (S.left source.old) (λ bytes. v.items ≡ take (most + 1) bytes)) }
     ensures cause { HasCause (S.faults source.old) (S.faults source.new) result }

@@ -4,11 +4,11 @@ ghost use Rattle.labtop.specs.Found.{IsFound};
 ghost use Rattle.labtop.specs.Scapconf.{fate_of, has_segment, holds, packet_in};
 ghost use Rattle.porthdr.specs.Transport.{kind_of};
 
-use scapconf::Settings;
 use datagrams::Datagram;
 use linkip::network;
 use pcapfile::{Frame, Link};
 use porthdr::{Seen, Skip, transport};
+use scapconf::Settings;
 use streamkey::{Key, Proto, Toward};
 
 /// What becomes of a record: its datagram is taken, the filter refuses its packet, or it has none.

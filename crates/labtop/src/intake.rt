@@ -5,12 +5,12 @@ ghost use Rattle.labtop.specs.Found.{captured_by};
 ghost use Rattle.labtop.specs.Scapconf.{captured, first_moment, has_segment};
 ghost use Rattle.streamdefs.specs.Report.{records_of};
 
-use crate::memory::Memory;
 use crate::counts::RecordCounts;
 use crate::found::{Found, found_in};
-use scapconf::Settings;
+use crate::memory::Memory;
 use datagrams::Datagram;
 use pcapfile::{Frame, Link};
+use scapconf::Settings;
 use std::alloc::Global;
 
 /// The datagrams that are taken, how many records there are of each fate, the moment of the first record, and the greatest

@@ -1,8 +1,8 @@
 ghost use Rattle.std.specs.Prelude.{◌≡◌};
 ghost use Rattle.labtop.specs.Headline.{IsEmpty};
 
-use scapconf::Status;
 use histbook::{Books, Journal, Served};
+use scapconf::Status;
 use std::alloc::Global;
 
 /// How a command ended, and the journal of its report. The journal is empty where no whole report was written.

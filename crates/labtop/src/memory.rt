@@ -1,6 +1,8 @@
 ghost use Rattle.std.specs.Prelude.{◌≡◌};
 ghost use Rattle.scapconf.specs.declared.status.Status.TheVariants.{Memory as OutOfMemory};
+ghost use Rattle.scap_world.specs.declared.fault.WorldFault.TheVariants.{Memory as OutsideMemory};
 
+use scap_world::WorldFault;
 use scapconf::Status;
 use std::alloc::{AllocError, AllocFailed};
 
@@ -35,6 +37,14 @@ impl From<histbook::Memory> for Memory {
 impl From<datagrams::Memory> for Memory {
     fn from(_: datagrams::Memory) -> Self {
         Memory
+    }
+}
+
+impl From<Memory> for WorldFault {
+    ghost from_gives = { λ _ fault. fault ≡ OutsideMemory };
+
+    fn from(_: Memory) -> Self {
+        WorldFault::Memory
     }
 }
 

@@ -27,8 +27,8 @@ pub(crate) fn name_of_report(alloc: Global, out: &str) -> Result<String, AllocEr
     named(alloc, out, ".report")
 }
 
-/// The file of the numbers that match.
-pub(crate) fn name_of_matches(alloc: Global, out: &str) -> Result<String, AllocError>
+/// The file of a match.
+pub(crate) fn name_of_match(alloc: Global, out: &str) -> Result<String, AllocError>
     ensures { IfOk result (λ name. string_bytes name ≡ match_name out.now) }
 {
     named(alloc, out, ".match")

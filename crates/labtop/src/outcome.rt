@@ -11,13 +11,12 @@ ghost use Rattle.streamdefs.specs.Report.{records_of};
 
 use crate::capture::{MOST_BUILT, whole_frames};
 use crate::intake::{Intake, intake_of};
-use scapconf::Settings;
-use crate::summary::report;
 use crate::memory::Memory;
-use scapconf::Status;
+use crate::summary::report;
 use datagrams::replay_all;
 use histbook::Journal;
 use pcapfile::{FileHead, Frame, Link};
+use scapconf::{Settings, Status};
 use std::alloc::Global;
 
 /// The journal of a run, and the texts of its two files.
@@ -52,7 +51,12 @@ fn outcome_with(alloc: Global, settings: &Settings, intake: &Intake<'_>) -> Resu
 }
 
 /// The files of a capture's records.
-fn outcome_of(alloc: Global, settings: &Settings, link: Link, frames: &[Frame]) -> Result<Outcome, Status>
+fn outcome_of(
+    alloc: Global,
+    settings: &Settings,
+    link: Link,
+    frames: &[Frame],
+) -> Result<Outcome, Status>
     requires few { length frames.now < 2 ^ 32 }
     requires fits { sum_by (λ f. length f.bytes) frames.now < 2 ^ 31 }
     ensures { Gives (terms_of settings.now) result (of_captured settings.now.set.shape.idle (captured settings.now.filter link frames.now)) }
@@ -69,7 +73,11 @@ fn outcome_of(alloc: Global, settings: &Settings, link: Link, frames: &[Frame]) 
 
 /// The files of a capture.
 #[tactic(auto, unfolding(crate::specs::Drill::verdict_of))]
-pub(crate) fn outcome_for(alloc: Global, settings: &Settings, bytes: &[u8]) -> Result<Outcome, Status>
+pub(crate) fn outcome_for(
+    alloc: Global,
+    settings: &Settings,
+    bytes: &[u8],
+) -> Result<Outcome, Status>
     ensures { Gives (terms_of settings.now) result (verdict_of settings.now bytes.now) }
 {
     let head = match FileHead::read(bytes) {

@@ -5,8 +5,8 @@ ghost use Rattle.labtop.specs.ReportLines.{lines_of, numbers_line, totals_line};
 ghost use Rattle.streamdefs.specs.Handler.{way_mark};
 ghost use Rattle.streamdefs.specs.Report.{head_lines, records_of, records_line, status_line};
 
-use crate::memory::Memory;
 use crate::counts::RecordCounts;
+use crate::memory::Memory;
 use crate::put::{put_count, put_numbers, put_text};
 use crate::totals::Totals;
 use datagrams::{Conversation, RunningSums};

@@ -7,8 +7,8 @@ ghost use Rattle.labtop.specs.ReportLines.{lines_of, lines_with};
 ghost use Rattle.streamdefs.specs.Lists.{Each, total};
 ghost use Rattle.streamdefs.specs.Report.{records_of};
 
-use crate::memory::Memory;
 use crate::counts::RecordCounts;
+use crate::memory::Memory;
 use crate::report::{
     put_budget_line, put_bytes_line, put_dir_lines, put_head_lines, put_records_line,
     put_status_line,

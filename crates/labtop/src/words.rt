@@ -2,7 +2,7 @@
 ghost use Rattle.std.specs.Prelude.{◌≡◌, IfOk};
 ghost use Rattle.labtop.specs.Words.{Means, command_of, drill_of, drill_words, has_later, is_drill, is_later_command, is_later_option, is_match, is_option, is_output, is_positional, match_words, texts, told_word};
 
-use crate::names::{name_of_delivery, name_of_matches, name_of_report};
+use crate::names::{name_of_delivery, name_of_match, name_of_report};
 use std::alloc::{AllocError, Global};
 
 /// What the words ask for.
@@ -84,10 +84,7 @@ fn are_of_drill(
 {
     let over_capture = is_output(alloc, out, capture)?;
     let over_settings = is_output_or_none(alloc, out, settings)?;
-    Ok(can_be_positional(capture)
-        && can_be_positional(out)
-        && !over_capture
-        && !over_settings)
+    Ok(can_be_positional(capture) && can_be_positional(out) && !over_capture && !over_settings)
 }
 
 /// A drill with these settings, by the words behind its options.
@@ -130,19 +127,16 @@ fn drill_asked<'a>(alloc: Global, words: &[&'a str]) -> Result<Asked<'a>, AllocE
 }
 
 #[tactic(auto, unfolding(crate::specs::Words::is_match))]
-fn are_of_match(
-    alloc: Global,
-    filter: &str,
-    capture: &str,
-    out: &str,
-) -> Result<bool, AllocError>
+fn are_of_match(alloc: Global, filter: &str, capture: &str, out: &str) -> Result<bool, AllocError>
     ensures { IfOk result (λ b. b ≡ is_match filter.now capture.now out.now) }
 {
-    let matches = name_of_matches(alloc, out)?;
-    Ok(can_be_positional(filter)
-        && can_be_positional(capture)
-        && can_be_positional(out)
-        && matches.as_str() != capture)
+    let matches = name_of_match(alloc, out)?;
+    Ok(
+        can_be_positional(filter)
+            && can_be_positional(capture)
+            && can_be_positional(out)
+            && matches.as_str() != capture,
+    )
 }
 
 fn match_asked<'a>(alloc: Global, words: &[&'a str]) -> Result<Asked<'a>, AllocError>

@@ -4,8 +4,8 @@
 #![tactic(auto)]
 
 use labtop::lab_top;
-use scapconf::{Memory, Status};
 use scap_world::FileShelf;
+use scapconf::{Memory, Status};
 use std::alloc::Global;
 use std::fs::File;
 use std::io::Write;

@@ -1,4 +1,4 @@
-use Rattle.scapconf.specs.declared.status.Status.TheVariants.{Done, ReadFault, Usage, WriteFault}
+use Rattle.scapconf.specs.declared.status.Status.TheVariants.{Done, Usage, WriteFault}
 use Rattle.labtop.specs.Names.{delivery_name, report_name}
 use Rattle.labtop.specs.Words.{told_word}
 use Rattle.labtop.proofs.AnswerLemmas.{answer_by, done_by, either_since, parts_by, parts_same, read_behind, refusal, refusal_not}

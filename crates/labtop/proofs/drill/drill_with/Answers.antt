@@ -1,6 +1,6 @@
 use Rattle.std.proofs.Common.{refl, inl, inr}
 use Rattle.scapconf.specs.declared.status.Status.TheVariants.{Done}
-use Rattle.labtop.proofs.DrillLemmas.{all_done, allowed, built, has_read, left_same, parts_left, written}
+use Rattle.labtop.proofs.DrillLemmas.{all_done, allowed, built, has_read, parts_left, written}
 use Rattle.labtop.proofs.drill.drill_with.Goals as goal
 
 pub returns-in-Err-outcome_for-clause-verdict : goal.returns-in-Err-outcome_for-clause-verdict

@@ -1,15 +1,20 @@
-use Rattle.std.proofs.Common.{◌≡◌, List, ℕ}
-use Rattle.std.specs.Prelude.{Option, IfSome, MatchOption}
+use Rattle.std.proofs.Common.{◌≡◌, ◌⊎◌, subst, sym}
+use Rattle.std.specs.Prelude.{IfSome, MatchOption}
 use Rattle.scap_world.specs.Causes.{Rose}
 use Rattle.scap_world.specs.Files.{file_of}
 use Rattle.scapconf.specs.declared.settings.Settings.{Settings}
-use Rattle.scapconf.specs.declared.status.Status.TheVariants.{Done}
+use Rattle.capfilter.specs.Faults.{IsFault}
+use Rattle.capfilter.specs.declared.filter_error.FilterFault.{FilterFault}
+use Rattle.labtop.specs.MatchAnswers.{no_filter, IsWritten, LeavesMatched}
+use Rattle.labtop.specs.Matching.{IsEnd}
+use Rattle.scapconf.specs.declared.status.Status.{Status}
+use Rattle.scapconf.specs.declared.status.Status.TheVariants.{Done, Memory}
 use Rattle.labtop.specs.Answers.{Completes, IsDoneBy, LeavesBy}
 use Rattle.labtop.specs.Drill.{asked_of}
 use Rattle.labtop.specs.Names.{delivery_name, report_name}
 use Rattle.labtop.specs.Settings.{GoesBy}
 use Rattle.labtop.proofs.AnswerLemmas.{complete_by, neither}
-use Rattle.labtop.proofs.WordsLemmas.{at_drill, not_outputs}
+use Rattle.labtop.proofs.WordsLemmas.{at_drill, at_match, not_output, not_outputs}
 use Rattle.labtop.proofs.top.lab_top.Goals as goal
 
 pub returns-in-Ok-Drill-clause-others : goal.returns-in-Ok-Drill-clause-others
@@ -20,24 +25,49 @@ returns-in-Ok-Drill-clause-others g c = λ other h.
 pub returns-in-Ok-Drill-clause-done : goal.returns-in-Ok-Drill-clause-done
 returns-in-Ok-Drill-clause-done g c = at_drill
     (λ settings capture out. c.drill_by.result.status ≡ Done → IfSome (g.S.Shelf.files c.args.shelf.now)
-        (λ files. IsDoneBy files settings capture out c.drill_by.result.journal (g.S.Shelf.files c.args.shelf.now) (g.S.Shelf.files c.drill_by.new.shelf)))
+    (λ files. IsDoneBy files settings capture out c.drill_by.result.journal (g.S.Shelf.files c.args.shelf.now) (g.S.Shelf.files c.drill_by.new.shelf)))
     c.in-Ok-Drill.settings c.in-Ok-Drill.capture c.in-Ok-Drill.out _ (rw c.in-Ok-Drill.field-0-is at c.in-Ok-Drill.ensures)
     c.drill_by.ensures.done
 
 pub returns-in-Ok-Drill-clause-complete : goal.returns-in-Ok-Drill-clause-complete
 returns-in-Ok-Drill-clause-complete g c = at_drill
     (λ settings capture out. (MatchOption settings ⊥ (λ name. Rose (g.S.Shelf.read_faults c.args.shelf.now name) (g.S.Shelf.read_faults c.drill_by.new.shelf name)) → ⊥)
-        → (Rose (g.S.Shelf.read_faults c.args.shelf.now capture) (g.S.Shelf.read_faults c.drill_by.new.shelf capture) → ⊥)
-        → (Rose (g.S.Shelf.write_faults c.args.shelf.now (delivery_name out)) (g.S.Shelf.write_faults c.drill_by.new.shelf (delivery_name out)) → ⊥)
-        → (Rose (g.S.Shelf.write_faults c.args.shelf.now (report_name out)) (g.S.Shelf.write_faults c.drill_by.new.shelf (report_name out)) → ⊥)
-        → IfSome (g.S.Shelf.files c.args.shelf.now) (λ files. (s : Settings) → GoesBy files settings s → Completes (asked_of s (file_of files capture)) c.drill_by.result.status))
+    → (Rose (g.S.Shelf.read_faults c.args.shelf.now capture) (g.S.Shelf.read_faults c.drill_by.new.shelf capture) → ⊥)
+    → (Rose (g.S.Shelf.write_faults c.args.shelf.now (delivery_name out)) (g.S.Shelf.write_faults c.drill_by.new.shelf (delivery_name out)) → ⊥)
+    → (Rose (g.S.Shelf.write_faults c.args.shelf.now (report_name out)) (g.S.Shelf.write_faults c.drill_by.new.shelf (report_name out)) → ⊥)
+    → IfSome (g.S.Shelf.files c.args.shelf.now) (λ files. (s : Settings) → GoesBy files settings s → Completes (asked_of s (file_of files capture)) c.drill_by.result.status))
     c.in-Ok-Drill.settings c.in-Ok-Drill.capture c.in-Ok-Drill.out _ (rw c.in-Ok-Drill.field-0-is at c.in-Ok-Drill.ensures)
     (λ named read delivery report. complete_by _ _ _ _ c.drill_by.ensures.answer
-        (λ e. neither _ _ named (λ h. read h.0) (c.drill_by.ensures.read e)) (λ e. neither _ _ delivery report (c.drill_by.ensures.write e)))
+    (λ e. neither _ _ named (λ h. read h.0) (c.drill_by.ensures.read e)) (λ e. neither _ _ delivery report (c.drill_by.ensures.write e)))
 
 pub returns-in-Ok-Drill-clause-parts : goal.returns-in-Ok-Drill-clause-parts
 returns-in-Ok-Drill-clause-parts g c = at_drill
     (λ settings capture out. IfSome (g.S.Shelf.files c.args.shelf.now)
-        (λ files. LeavesBy files settings capture out (g.S.Shelf.files c.args.shelf.now) (g.S.Shelf.files c.drill_by.new.shelf)))
+    (λ files. LeavesBy files settings capture out (g.S.Shelf.files c.args.shelf.now) (g.S.Shelf.files c.drill_by.new.shelf)))
     c.in-Ok-Drill.settings c.in-Ok-Drill.capture c.in-Ok-Drill.out _ (rw c.in-Ok-Drill.field-0-is at c.in-Ok-Drill.ensures)
     c.drill_by.ensures.parts
+
+pub returns-in-Ok-Match-clause-others : goal.returns-in-Ok-Match-clause-others
+returns-in-Ok-Match-clause-others g c = λ other h.
+    c.match_by-status.ensures.others other (not_output c.in-Ok-Match.filter c.in-Ok-Match.capture c.in-Ok-Match.out _ other (rw c.in-Ok-Match.field-0-is at c.in-Ok-Match.ensures) h)
+
+pub returns-in-Ok-Match-clause-match_refused : goal.returns-in-Ok-Match-clause-match_refused
+returns-in-Ok-Match-clause-match_refused g c = at_match
+    (λ filter capture out. (fault : FilterFault) → IsFault filter fault
+    → ((c.without_report.result.status ≡ Memory) ⊎ (c.without_report.result.status ≡ no_filter)) × (c.match_by-status.new.shelf ≡ c.args.shelf.now))
+    c.in-Ok-Match.filter c.in-Ok-Match.capture c.in-Ok-Match.out _ (rw c.in-Ok-Match.field-0-is at c.in-Ok-Match.ensures)
+    (λ fault h. subst (λ (s : Status). ((s ≡ Memory) ⊎ (s ≡ no_filter)) × (c.match_by-status.new.shelf ≡ c.args.shelf.now)) (sym c.without_report.ensures.status) (c.match_by-status.ensures.refused fault h))
+
+pub returns-in-Ok-Match-clause-match_written : goal.returns-in-Ok-Match-clause-match_written
+returns-in-Ok-Match-clause-match_written g c = at_match
+    (λ filter capture out. IsEnd c.without_report.result.status → IfSome (g.S.Shelf.files c.args.shelf.now)
+    (λ files. IsWritten files filter capture out (g.S.Shelf.files c.args.shelf.now) (g.S.Shelf.files c.match_by-status.new.shelf)))
+    c.in-Ok-Match.filter c.in-Ok-Match.capture c.in-Ok-Match.out _ (rw c.in-Ok-Match.field-0-is at c.in-Ok-Match.ensures)
+    (λ h. c.match_by-status.ensures.written (subst IsEnd c.without_report.ensures.status h))
+
+pub returns-in-Ok-Match-clause-match_parts : goal.returns-in-Ok-Match-clause-match_parts
+returns-in-Ok-Match-clause-match_parts g c = at_match
+    (λ filter capture out. IfSome (g.S.Shelf.files c.args.shelf.now)
+    (λ files. LeavesMatched files filter capture out (g.S.Shelf.files c.args.shelf.now) (g.S.Shelf.files c.match_by-status.new.shelf)))
+    c.in-Ok-Match.filter c.in-Ok-Match.capture c.in-Ok-Match.out _ (rw c.in-Ok-Match.field-0-is at c.in-Ok-Match.ensures)
+    c.match_by-status.ensures.parts

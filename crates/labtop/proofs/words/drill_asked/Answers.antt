@@ -1,4 +1,4 @@
-use Rattle.std.proofs.Common.{◌<◌, arith, length}
+use Rattle.std.proofs.Common.{arith}
 use Rattle.labtop.proofs.WordsLemmas.{wrong_few}
 use Rattle.labtop.proofs.words.drill_asked.Goals as goal
 

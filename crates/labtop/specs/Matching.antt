@@ -1,0 +1,136 @@
+-- docs/RULES.md, "Matches".
+use Rattle.std.specs.Prelude.{ℕ, ◌≡◌, ◌⊎◌, List, ◌++◌, codes, flat_map, Option, Some, None, Result, Ok, Err}
+use Rattle.std.specs.Fmt.{decimal}
+use Rattle.capfilter.specs.Expr.{Expr}
+use Rattle.pcapfile.specs.declared.frame.Frame.{Frame}
+use Rattle.pcapfile.specs.declared.head.FileHead.{FileHead}
+use Rattle.pcapfile.specs.declared.head_fault.HeadFault.{HeadFault}
+use Rattle.pcapfile.specs.declared.link.Link.{Link}
+use Rattle.pcapfile.specs.Capture.{End, Whole, Cut, TooBig, TooLong, Records, capture_of}
+use Rattle.scap_world.specs.Files.{File, told_file, told_put}
+use Rattle.scapconf.specs.declared.status.Status.{Status}
+use Rattle.scapconf.specs.declared.status.Status.TheVariants as status
+use Rattle.labtop.specs.Answers.{IsPart}
+use Rattle.labtop.specs.Drill.{limits}
+use Rattle.labtop.specs.Names.{match_name}
+use Rattle.labtop.specs.Scapconf.{fates, packets_of}
+
+-- the line of a number
+abbrev pub number_line : ℕ → List ℕ
+number_line n = decimal n ++ codes "\n"
+
+-- the file of a match: the numbers of the records whose packets the filter takes, in order, a line each
+unfoldable pub match_text : Expr → Link → List Frame → List ℕ
+match_text filter link frames = flat_map (λ p. number_line p.number) (packets_of (fates (Some filter) link frames))
+
+-- how a match ends, by how the capture ends
+abbrev pub status_of_end : End → Status
+status_of_end Whole = status.Done
+status_of_end (Cut bytes) = status.CutShort bytes
+status_of_end (TooBig at len) = status.BadRecord at len
+status_of_end TooLong = status.TooLong
+
+-- what a filter and a capture ask for: a file with that text and then that status; a refusal; or there is no capture
+pub data Matched : Type 0 where
+  Writes : (text : List ℕ) (end : Status) → Matched
+  Refuses : HeadFault → Matched
+  Unread : Matched
+
+abbrev pub matched_by : Expr → Result (FileHead × Records) HeadFault → Matched
+matched_by filter (Err fault) = Refuses fault
+matched_by filter (Ok capture) = Writes (match_text filter capture.0.link capture.1.frames) (status_of_end capture.1.end)
+
+unfoldable pub matched_in : Expr → List ℕ → Matched
+matched_in filter bytes = matched_by filter (capture_of limits bytes)
+
+-- by the capture's bytes, where it is there
+abbrev pub matched_of : Expr → Option (List ℕ) → Matched
+matched_of filter None = Unread
+matched_of filter (Some bytes) = matched_in filter bytes
+
+-- the statuses that are allowed: want of memory and a fault of reading may stand in place of the capture's own, and a fault of
+-- writing where a file is written
+abbrev pub AllowsMatch : Matched → Status → Type 0
+AllowsMatch matched status.Memory = Unit {0}
+AllowsMatch matched status.ReadFault = Unit {0}
+AllowsMatch matched status.Usage = ⊥
+AllowsMatch matched (status.Settings line kind) = ⊥
+AllowsMatch matched status.Unbuilt = ⊥
+AllowsMatch (Writes text end) status.Done = status.Done ≡ end
+AllowsMatch (Writes text end) (status.BadRecord at len) = status.BadRecord at len ≡ end
+AllowsMatch (Writes text end) (status.CutShort bytes) = status.CutShort bytes ≡ end
+AllowsMatch (Writes text end) status.TooLong = status.TooLong ≡ end
+AllowsMatch (Writes text end) status.WriteFault = Unit {0}
+AllowsMatch (Writes text end) (status.NotPcap kind) = ⊥
+AllowsMatch (Refuses fault) status.Done = ⊥
+AllowsMatch (Refuses fault) (status.BadRecord at len) = ⊥
+AllowsMatch (Refuses fault) (status.CutShort bytes) = ⊥
+AllowsMatch (Refuses fault) status.TooLong = ⊥
+AllowsMatch (Refuses fault) status.WriteFault = ⊥
+AllowsMatch (Refuses fault) (status.NotPcap kind) = kind ≡ fault
+AllowsMatch Unread status.Done = ⊥
+AllowsMatch Unread (status.BadRecord at len) = ⊥
+AllowsMatch Unread (status.CutShort bytes) = ⊥
+AllowsMatch Unread status.TooLong = ⊥
+AllowsMatch Unread status.WriteFault = ⊥
+AllowsMatch Unread (status.NotPcap kind) = ⊥
+
+-- the statuses behind which the file is whole
+abbrev pub IsEnd : Status → Type 0
+IsEnd status.Done = Unit {0}
+IsEnd (status.BadRecord at len) = Unit {0}
+IsEnd (status.CutShort bytes) = Unit {0}
+IsEnd status.TooLong = Unit {0}
+IsEnd status.Memory = ⊥
+IsEnd status.Usage = ⊥
+IsEnd (status.Settings line kind) = ⊥
+IsEnd status.ReadFault = ⊥
+IsEnd status.WriteFault = ⊥
+IsEnd (status.NotPcap kind) = ⊥
+IsEnd status.Unbuilt = ⊥
+
+-- the statuses that leave every file as it was
+abbrev pub IsUnwritten : Status → Type 0
+IsUnwritten status.ReadFault = Unit {0}
+IsUnwritten (status.NotPcap kind) = Unit {0}
+IsUnwritten status.Usage = Unit {0}
+IsUnwritten (status.Settings line kind) = Unit {0}
+IsUnwritten status.Unbuilt = Unit {0}
+IsUnwritten status.Done = ⊥
+IsUnwritten status.Memory = ⊥
+IsUnwritten status.WriteFault = ⊥
+IsUnwritten (status.BadRecord at len) = ⊥
+IsUnwritten (status.CutShort bytes) = ⊥
+IsUnwritten status.TooLong = ⊥
+
+-- the statuses that no match has
+abbrev pub IsForeign : Status → Type 0
+IsForeign status.Usage = Unit {0}
+IsForeign (status.Settings line kind) = Unit {0}
+IsForeign status.Unbuilt = Unit {0}
+IsForeign status.Done = ⊥
+IsForeign status.Memory = ⊥
+IsForeign status.ReadFault = ⊥
+IsForeign status.WriteFault = ⊥
+IsForeign (status.NotPcap kind) = ⊥
+IsForeign (status.BadRecord at len) = ⊥
+IsForeign (status.CutShort bytes) = ⊥
+IsForeign status.TooLong = ⊥
+
+-- the files behind a match that came to its end
+abbrev pub WritesMatch : Matched → List ℕ → Option (List File) → Option (List File) → Type 0
+WritesMatch (Writes text end) out old new = new ≡ told_put (match_name out) text old
+WritesMatch (Refuses fault) out old new = ⊥
+WritesMatch Unread out old new = ⊥
+
+-- the files behind a match, whatever its status: its file is as it was, or holds a front of the text
+abbrev pub LeavesMatch : Matched → List ℕ → Option (List File) → Option (List File) → Type 0
+LeavesMatch (Writes text end) out old new = IsPart text (told_file old (match_name out)) (told_file new (match_name out))
+LeavesMatch (Refuses fault) out old new = new ≡ old
+LeavesMatch Unread out old new = new ≡ old
+
+-- where no fault was counted, the capture's own status is the answer, or there was no memory
+abbrev pub CompletesMatch : Matched → Status → Type 0
+CompletesMatch (Writes text end) answer = (answer ≡ end) ⊎ (answer ≡ status.Memory)
+CompletesMatch (Refuses fault) answer = (answer ≡ status.NotPcap fault) ⊎ (answer ≡ status.Memory)
+CompletesMatch Unread answer = answer ≡ status.Memory
