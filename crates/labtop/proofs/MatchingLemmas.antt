@@ -1,6 +1,7 @@
 -- The text of a match, record by record.
 use Rattle.std.proofs.Common.{◌≡◌, ℕ, ◌+◌, ◌≤◌, ◌<◌, max, List, [], ◌∷◌, ◌++◌, length, drop, refl, ap, sym, ◌∙◌, Bool, true, false, cond, arith, length-drop, length-take}
 use Rattle.std.specs.Prelude.{flat_map, Some, Ok, Err}
+use Rattle.std.specs.List.{enumerate_from}
 use Rattle.std.proofs.lemmas.List.{append-nil}
 use Rattle.std.proofs.lemmas.List.Concat.{flat_map-append}
 use Rattle.capfilter.specs.Expr.{Expr}
@@ -24,8 +25,8 @@ use Rattle.streamdefs.specs.Packet.{Packet}
 use Rattle.labtop.specs.declared.matching.Matches.{Matches}
 use Rattle.labtop.specs.declared.matching.Matching.{Matching}
 use Rattle.labtop.specs.Drill.{limits}
-use Rattle.labtop.specs.Matched.{HasAll, HasFault, HasRead, IsInside, end_of, line_for}
-use Rattle.labtop.specs.Matching.{match_text, number_line}
+use Rattle.labtop.specs.Matched.{HasAll, HasFault, HasRead, IsInside, end_of}
+use Rattle.labtop.specs.Matching.{line_for, match_text, number_line}
 use Rattle.labtop.specs.Scapconf.{Fate, Taken, Filtered, fate_of, fates, fates_from, last_clock, packet_in, packets_of}
 use Rattle.labtop.proofs.IntakeLemmas.{fates-push}
 
@@ -33,14 +34,30 @@ abbrev line_of : Packet → List ℕ
 line_of p = number_line p.number
 
 -- the line of one record
-one_line : (filter : Expr) (n c : ℕ) (kind : Kind) → flat_map line_of (packets_of (fate_of (Some filter) n c kind ∷ [])) ≡ line_for filter n kind
+one_line : (filter : Expr) (n c : ℕ) (kind : Kind) → flat_map line_of (packet_in (fate_of (Some filter) n c kind)) ≡ line_for filter n kind
 one_line filter n c (Skipped why) = refl
 one_line filter n c (Accepted key toward seq flags declared payload) =
     either (truth filter key toward) (record { number = n; now = c; key = key; toward = toward; seq = seq; flags = flags; declared = declared; payload = payload })
   where
-    either : (b : Bool) (p : Packet) → flat_map line_of (packets_of (cond b (Taken p) Filtered ∷ [])) ≡ cond b (number_line p.number) []
+    either : (b : Bool) (p : Packet) → flat_map line_of (packet_in (cond b (Taken p) Filtered)) ≡ cond b (number_line p.number) []
     either true p = append-nil (number_line p.number)
     either false p = refl
+
+-- each record has its own part of the text
+text-from : (filter : Expr) (link : Link) (n c : ℕ) (xs : List Frame) → flat_map line_of (packets_of (fates_from (Some filter) link n c xs))
+    ≡ flat_map (λ numbered. line_for filter numbered.0 (kind_of link numbered.1.bytes)) (enumerate_from n xs)
+unfolding fates_from
+text-from filter link n c [] = refl
+text-from filter link n c (x ∷ xs) =
+    let f : Fate = fate_of (Some filter) n (max c x.moment) (kind_of link x.bytes) in
+    let rest : List Packet = packets_of (fates_from (Some filter) link (n + 1) (max c x.moment) xs) in
+    flat_map-append line_of (packet_in f) rest
+    ∙ (λ i. one_line filter n (max c x.moment) (kind_of link x.bytes) i ++ text-from filter link (n + 1) (max c x.moment) xs i)
+
+pub text_numbered : (filter : Expr) (link : Link) (xs : List Frame)
+    → match_text filter link xs ≡ flat_map (λ numbered. line_for filter numbered.0 (kind_of link numbered.1.bytes)) (enumerate_from 1 xs)
+unfolding match_text
+text_numbered filter link xs = text-from filter link 1 0 xs
 
 -- the text of one record more
 pub match_text-push : (filter : Expr) (link : Link) (xs : List Frame) (x : Frame)
@@ -50,8 +67,8 @@ match_text-push filter link xs x =
     let f : Fate = fate_of (Some filter) (length xs + 1) (max (last_clock xs) x.moment) (kind_of link x.bytes) in
     let fs : List Fate = fates (Some filter) link xs in
     ap (λ (l : List Fate). flat_map line_of (packets_of l)) (fates-push (Some filter) link xs x)
-    ∙ ap (flat_map line_of) (flat_map-append packet_in fs (f ∷ []))
-    ∙ flat_map-append line_of (packets_of fs) (packets_of (f ∷ []))
+    ∙ ap (flat_map line_of) (flat_map-append packet_in fs (f ∷ []) ∙ ap (λ (l : List Packet). packets_of fs ++ l) (append-nil (packet_in f)))
+    ∙ flat_map-append line_of (packets_of fs) (packet_in f)
     ∙ ap (λ (l : List ℕ). flat_map line_of (packets_of fs) ++ l) (one_line filter (length xs + 1) (max (last_clock xs) x.moment) (kind_of link x.bytes))
 
 pub match_text-nil : (filter : Expr) (link : Link) → match_text filter link [] ≡ []

@@ -1,7 +1,6 @@
 -- What is kept of a capture while its matches are sought.
-use Rattle.std.specs.Prelude.{ℕ, ◌≡◌, ◌≤◌, ◌+◌, List, [], ◌++◌, length, Bool, false, if◌then◌else◌, Option, Some, None, IfSome, Result, Ok, Err}
+use Rattle.std.specs.Prelude.{ℕ, ◌≡◌, ◌≤◌, ◌+◌, List, [], ◌++◌, length, Option, Some, None, IfSome, Result, Ok, Err}
 use Rattle.capfilter.specs.Expr.{Expr}
-use Rattle.capfilter.specs.Truth.{truth}
 use Rattle.pcapfile.specs.declared.frame.Frame.{Frame}
 use Rattle.pcapfile.specs.declared.frame_fault.FrameFault.{FrameFault}
 use Rattle.pcapfile.specs.declared.head.FileHead.{FileHead}
@@ -10,7 +9,6 @@ use Rattle.pcapfile.specs.declared.tail.Tail.{Tail}
 use Rattle.pcapfile.specs.Capture.{End}
 use Rattle.pcapfile.specs.Fed.{EndsForGood, StandsFor, records_of}
 use Rattle.pcapfile.specs.Reading.{end_of_fault, end_of_tail}
-use Rattle.porthdr.specs.Kind.{Kind, Accepted, Skipped}
 use Rattle.scap_world.specs.Contents.{prefixed}
 use Rattle.labtop.specs.declared.matching.Matches.{Matches}
 use Rattle.labtop.specs.declared.matched.Turn.{Turn}
@@ -19,16 +17,7 @@ use Rattle.labtop.specs.declared.matching.Matching.{Matching}
 use Rattle.labtop.specs.declared.matching.Took.{Took}
 use Rattle.labtop.specs.declared.matching.Took.TheVariants as took
 use Rattle.labtop.specs.Drill.{limits}
-use Rattle.labtop.specs.Matching.{Matched, Writes, Refuses, Unread, match_text, number_line, status_of_end}
-
--- whether a record is accepted and the filter holds of its packet
-abbrev pub is_match : Expr → Kind → Bool
-is_match filter (Accepted key toward seq flags declared payload) = truth filter key toward
-is_match filter (Skipped why) = false
-
--- what a record of that number adds to the text
-abbrev pub line_for : Expr → ℕ → Kind → List ℕ
-line_for filter number kind = if is_match filter kind then number_line number else []
+use Rattle.labtop.specs.Matching.{Matched, Writes, Refuses, Unread, match_text, status_of_end}
 
 -- the reader has the limits and is within them, and its records are counted
 pub record IsInside (m : Matching) : Type 0 where
@@ -53,6 +42,7 @@ pub record HasFault (filter : Expr) (head : FileHead) (fed : List ℕ) (fault : 
   pub stays : EndsForGood head limits fed given fault
   pub text : m.text.items ≡ match_text filter head.link given
 
+-- what holds after an answer, by what it says
 abbrev pub HasTaken : Expr → FileHead → List ℕ → Took → Matching → Type 0
 HasTaken filter head fed took.Record m = HasRead filter head fed m
 HasTaken filter head fed took.More m = HasRead filter head fed m
@@ -73,6 +63,7 @@ HasTurned filter head fed left rest turn.Fed m = HasReadOn filter head fed left 
 HasTurned filter head fed left rest turn.Ended m = HasRead filter head fed m × IfSome left (λ bytes. bytes ≡ [])
 HasTurned filter head fed left rest (turn.Fault fault) m = HasFault filter head fed fault m
 
+-- the end of a capture in code
 abbrev pub end_of : Result Tail FrameFault → End
 end_of (Ok tail) = end_of_tail tail
 end_of (Err fault) = end_of_fault fault

@@ -1,12 +1,14 @@
 -- docs/RULES.md, "Matches".
-use Rattle.std.specs.Prelude.{ℕ, ◌≡◌, ◌⊎◌, List, ◌++◌, codes, flat_map, Option, Some, None, Result, Ok, Err}
+use Rattle.std.specs.Prelude.{ℕ, ◌≡◌, ◌⊎◌, List, [], ◌++◌, Bool, false, codes, flat_map, if◌then◌else◌, Option, Some, None, Result, Ok, Err}
 use Rattle.std.specs.Fmt.{decimal}
 use Rattle.capfilter.specs.Expr.{Expr}
+use Rattle.capfilter.specs.Truth.{truth}
 use Rattle.pcapfile.specs.declared.frame.Frame.{Frame}
 use Rattle.pcapfile.specs.declared.head.FileHead.{FileHead}
 use Rattle.pcapfile.specs.declared.head_fault.HeadFault.{HeadFault}
 use Rattle.pcapfile.specs.declared.link.Link.{Link}
 use Rattle.pcapfile.specs.Capture.{End, Whole, Cut, TooBig, TooLong, Records, capture_of}
+use Rattle.porthdr.specs.Kind.{Kind, Accepted, Skipped}
 use Rattle.scap_world.specs.Files.{File, told_file, told_put}
 use Rattle.scapconf.specs.declared.status.Status.{Status}
 use Rattle.scapconf.specs.declared.status.Status.TheVariants as status
@@ -18,6 +20,15 @@ use Rattle.labtop.specs.Scapconf.{fates, packets_of}
 -- the line of a number
 abbrev pub number_line : ℕ → List ℕ
 number_line n = decimal n ++ codes "\n"
+
+-- whether a record is accepted and the filter holds of its packet
+abbrev pub is_match : Expr → Kind → Bool
+is_match filter (Accepted key toward seq flags declared payload) = truth filter key toward
+is_match filter (Skipped why) = false
+
+-- what a record of that number adds to the text
+abbrev pub line_for : Expr → ℕ → Kind → List ℕ
+line_for filter number kind = if is_match filter kind then number_line number else []
 
 -- the file of a match: the numbers of the records whose packets the filter takes, in order, a line each
 unfoldable pub match_text : Expr → Link → List Frame → List ℕ

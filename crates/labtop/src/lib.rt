@@ -14,6 +14,7 @@ mod intake;
 mod lab_done;
 pub mod laws;
 mod match_by;
+pub mod match_laws;
 pub mod match_rows;
 mod match_run;
 mod matched;

@@ -1,7 +1,7 @@
 // The matches of a capture whose records come in pieces.
 ghost use Rattle.std.specs.Prelude.{◌≡◌, ◌<◌, ◌^◌, ◌++◌, OnOk, length};
 ghost use Rattle.porthdr.specs.Transport.{kind_of};
-ghost use Rattle.labtop.specs.Matched.{is_match, line_for};
+ghost use Rattle.labtop.specs.Matching.{is_match, line_for};
 
 use crate::capture::{MOST_BYTES, MOST_FRAMES};
 use crate::memory::Memory;
