@@ -1,4 +1,4 @@
-use Rattle.std.proofs.Common.{◌≡◌, ◌≤◌, ◌<◌, ◌⊎◌, ℕ, ◌+◌, List, [], ◌∷◌, length, take, get_or, map, Option, Some, None, Result, Ok, Err, sym, ◌∙◌, ap, refl, subst, arith, inl, inr, nat_eq, find, codes, filter}
+use Rattle.std.proofs.Common.{◌≡◌, ◌≤◌, ◌<◌, ◌⊎◌, ℕ, ◌+◌, List, [], ◌∷◌, length, take, map, Option, Some, None, Result, Ok, Err, sym, ◌∙◌, ap, refl, subst, arith, inl, inr, nat_eq, find, filter}
 use Rattle.std.specs.Prelude.{MatchOption, MatchResult, IfOk, IfErr, IsErrAnd, IsSomeAnd}
 use Rattle.std.specs.List.{AllZip}
 use Rattle.std.specs.Str.Lines.{lines}
@@ -9,7 +9,6 @@ use Rattle.capfilter.proofs.LawLemmas.{one_tree}
 use Rattle.cutclass.specs.declared.cut.Cut.{Cut}
 use Rattle.cutclass.specs.declared.class_rule.ClassRule.{ClassRule}
 use Rattle.cutclass.specs.declared.cutoffs.Cutoffs.{Cutoffs}
-use Rattle.convo.specs.declared.convo_set.ConvoSet.{ConvoSet}
 use Rattle.overpolicy.specs.declared.mode.Mode.{Mode}
 use Rattle.overpolicy.specs.declared.policy.Policy.{Policy}
 use Rattle.overpolicy.specs.declared.shape.Shape.{Shape}
@@ -24,9 +23,9 @@ use Rattle.scapconf.specs.declared.settings_error.SettingsError.{SettingsError}
 use Rattle.scapconf.specs.declared.settings_error.SettingsError.TheVariants as refusals
 use Rattle.scapconf.specs.declared.settings_error.SettingsKind.{SettingsKind}
 use Rattle.scapconf.specs.declared.settings_error.SettingsKind.TheVariants as kinds
-use Rattle.scapconf.specs.Lines.{Words, said, joined}
+use Rattle.scapconf.specs.Lines.{Words, said}
 use Rattle.scapconf.specs.Names.{line_with, head}
-use Rattle.scapconf.specs.Faults.{IsFault, IsFaultAt, IsFaultOf, IsClean, AreClean, Has, line_at, rank}
+use Rattle.scapconf.specs.Faults.{IsFault, IsFaultAt, IsFaultOf, IsClean, AreClean, line_at, rank}
 use Rattle.scapconf.specs.Says.{size_of, time_of, cutoff_of, IsDefault, IsValue, IsClass, Says, Reads}
 use Rattle.scapconf.specs.Parser.{IsMemoryOrFault}
 use Rattle.scapconf.specs.Laws.{HasOneMeaning, HasOneFault, IsReadOrRefused}

@@ -4,6 +4,8 @@
 //! pcapfile (why a file is no capture) and itoa.
 #![tactic(auto)]
 
+#[cfg(test)]
+mod fault_tests;
 mod key;
 pub mod laws;
 mod line;
@@ -20,6 +22,8 @@ pub mod rows;
 mod setting;
 mod settings;
 mod settings_error;
+#[cfg(test)]
+mod settings_tests;
 mod size;
 mod status;
 mod status_text;
