@@ -40,7 +40,7 @@ CHECKED = (
 )
 # Settings of the tables, and those of checks alone: small chunks under a small budget, and the packets of one port.
 MEASURED = (model.Settings(), model.Settings(limit=65_536))
-ONLY_CHECKED = (model.Settings(limit=4_096, chunk=256), model.Settings(chunk=1), model.Settings(port=53))
+ONLY_CHECKED = (model.Settings(limit=4_096, chunk=256), model.Settings(chunk=1), model.Settings(port=1024))
 COLUMNS = (
     "datagrams", "keys", "capture B", "output B", "seconds", "us/datagram",
     "peak KiB", "peak B/datagram", "x copy", "equal",
