@@ -169,6 +169,10 @@ fn each_call_of_a_match_can_fail(rt: HostRuntime) -> Result<(), Fail> {
         );
         assert_eq!(rt; shelf.file("out.match"), None);
     }
+    let mut shelf = shelf_with(alloc, &ONE)?;
+    shelf.fail("cap", FailCall::Open, 1)?;
+    assert_eq!(rt; matched(alloc, "udp", &mut shelf), Status::ReadFault);
+    assert_eq!(rt; shelf.file("out.match"), None);
     let cases = [
         (FailCall::Create, 1, None),
         (FailCall::Write, 1, Some(b"".as_slice())),

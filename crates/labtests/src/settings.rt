@@ -197,6 +197,41 @@ fn settings_that_cannot_be_read_are_a_read_fault(rt: HostRuntime) -> Result<(), 
 }
 
 #[test]
+fn each_call_of_a_drill_with_settings_can_fail(rt: HostRuntime) -> Result<(), Fail> {
+    let alloc = rt.alloc();
+    // Read and written 16 bytes at a time: the settings take two reads, the capture seven, the delivery file five writes and the
+    // report 22.
+    let cases = [
+        ("set", FailCall::Open, 1, Status::ReadFault),
+        ("set", FailCall::Read, 2, Status::ReadFault),
+        ("cap", FailCall::Open, 1, Status::ReadFault),
+        ("cap", FailCall::Read, 7, Status::ReadFault),
+        ("out.0", FailCall::Create, 1, Status::WriteFault),
+        ("out.0", FailCall::Write, 5, Status::WriteFault),
+        ("out.0", FailCall::Finish, 1, Status::WriteFault),
+        ("out.report", FailCall::Create, 1, Status::WriteFault),
+        ("out.report", FailCall::Write, 22, Status::WriteFault),
+        ("out.report", FailCall::Finish, 1, Status::WriteFault),
+    ];
+    for (name, call, most, status) in cases {
+        for nth in 1..most + 1 {
+            let mut shelf = shelf_of(alloc, b"filter udp", &ONE)?;
+            shelf.set_piece(16);
+            shelf.fail(name, call, nth)?;
+            let done = lab_top(alloc, &WORDS, &mut shelf);
+            assert_eq!(rt; done.status, status, "{name} {nth}");
+        }
+        let mut shelf = shelf_of(alloc, b"filter udp", &ONE)?;
+        shelf.set_piece(16);
+        shelf.fail(name, call, most + 1)?;
+        let done = lab_top(alloc, &WORDS, &mut shelf);
+        assert_eq!(rt; done.status, Status::Done, "{name}");
+        expect_files(&rt, &shelf, Some(DELIVERY), Some(REPORT));
+    }
+    Ok(())
+}
+
+#[test]
 fn words_with_settings_are_taken_as_they_are_said(rt: HostRuntime) -> Result<(), Fail> {
     let alloc = rt.alloc();
     let cases: [(&[&str], Status); 8] = [
