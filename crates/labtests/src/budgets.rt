@@ -1,7 +1,6 @@
-use crate::captures::{WORDS, opened, put_record, shelf_with};
+use crate::captures::{WORDS, holds, opened, put_record, shelf_with};
 use labtop::{drill_run, lab_top};
 use prio_budget::Marks;
-use scap_world::MemShelf;
 use scapconf::{Settings, Status};
 use std::alloc::Global;
 use std::test::Fail;
@@ -16,15 +15,6 @@ fn put_line(text: &mut Vec<u8>, front: &str, count: usize) -> Result<(), Fail> {
     }
     text.push(b'\n')?;
     Ok(())
-}
-
-fn holds(shelf: &MemShelf, name: &str, part: &str) -> bool {
-    match shelf.file(name) {
-        Some(found) => found
-            .windows(part.len().max(1))
-            .any(|front| front == part.as_bytes()),
-        None => false,
-    }
 }
 
 #[test]

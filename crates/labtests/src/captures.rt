@@ -94,3 +94,13 @@ pub(crate) fn expect_files(
         report.map(|text| text.as_bytes())
     );
 }
+
+/// Whether a file has that part somewhere.
+pub(crate) fn holds(shelf: &MemShelf, name: &str, part: &str) -> bool {
+    match shelf.file(name) {
+        Some(found) => found
+            .windows(part.len().max(1))
+            .any(|front| front == part.as_bytes()),
+        None => false,
+    }
+}

@@ -1,4 +1,4 @@
-use crate::captures::{DELIVERY, ONE, REPORT, expect_files, opened, put_record, shelf_with};
+use crate::captures::{DELIVERY, ONE, REPORT, expect_files, holds, opened, put_record, shelf_with};
 use labtop::lab_top;
 use scap_world::{FailCall, MemShelf};
 use scapconf::{SettingsKind, Status};
@@ -11,15 +11,6 @@ fn shelf_of(alloc: Global, settings: &[u8], capture: &[u8]) -> Result<MemShelf, 
     let mut shelf = shelf_with(alloc, capture)?;
     shelf.add("set", settings)?;
     Ok(shelf)
-}
-
-fn holds(shelf: &MemShelf, name: &str, part: &str) -> bool {
-    match shelf.file(name) {
-        Some(found) => found
-            .windows(part.len().max(1))
-            .any(|front| front == part.as_bytes()),
-        None => false,
-    }
 }
 
 #[test]
