@@ -6,6 +6,7 @@ use pcapfile::{HeadFault, put_frame};
 use scap_world::{FailCall, MemShelf};
 use scapconf::{SettingsKind, Status};
 use std::alloc::Global;
+use std::process::Abort;
 use std::test::Fail;
 
 /// Appends the record of a segment between 10.0.0.1 port 40000 and 10.0.0.2 port 80, from the first or from the second.
@@ -49,6 +50,28 @@ fn matched(alloc: Global, filter: &str, shelf: &mut MemShelf) -> Status {
     lab_top(alloc, &["scaplab", "match", filter, "cap", "out"], shelf).status
 }
 
+/// A match over a file that is read and written so many bytes at a time writes that text.
+fn expect_text(
+    rt: &impl Abort,
+    alloc: Global,
+    capture: &[u8],
+    piece: usize,
+    filter: &str,
+    text: &str,
+) -> Result<(), Fail>
+    requires { 0 < piece }
+{
+    let mut shelf = shelf_with(alloc, capture)?;
+    shelf.set_piece(piece);
+    assert_eq!(rt;
+        matched(alloc, filter, &mut shelf),
+        Status::Done,
+        "of {filter}"
+    );
+    assert_eq!(rt; shelf.file("out.match"), Some(text.as_bytes()));
+    Ok(())
+}
+
 #[test]
 fn the_numbers_of_matching_records_are_written(rt: HostRuntime) -> Result<(), Fail> {
     let alloc = rt.alloc();
@@ -60,20 +83,9 @@ fn the_numbers_of_matching_records_are_written(rt: HostRuntime) -> Result<(), Fa
         ("udp", ""),
     ];
     for (filter, text) in cases {
-        for piece in [1, 16, 65_536] {
-            let mut shelf = shelf_with(alloc, &capture)?;
-            shelf.set_piece(piece);
-            assert_eq!(rt;
-                matched(alloc, filter, &mut shelf),
-                Status::Done,
-                "of {filter}"
-            );
-            assert_eq!(rt;
-                shelf.file("out.match"),
-                Some(text.as_bytes()),
-                "of {filter}"
-            );
-        }
+        expect_text(&rt, alloc, &capture, 1, filter, text)?;
+        expect_text(&rt, alloc, &capture, 16, filter, text)?;
+        expect_text(&rt, alloc, &capture, 65_536, filter, text)?;
     }
     Ok(())
 }
