@@ -1,4 +1,4 @@
-use crate::captures::{WORDS, holds, opened, put_record, shelf_with};
+use labcases::{WORDS, holds, opened, put_record, shelf_with};
 use labtop::{drill_run, lab_top};
 use prio_budget::Marks;
 use scapconf::{Settings, Status};

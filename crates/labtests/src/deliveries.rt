@@ -1,7 +1,7 @@
 ghost use Rattle.std.specs.Prelude.{◌<◌, length};
 
-use crate::captures::{
-    BIG, DELIVERY, ONE, REPORT, REPORT_OF_NANOSECONDS, WORDS, changed, expect_files, opened,
+use labcases::{
+    BIG, DELIVERY, ONE, REPORT, REPORT_OF_NANOSECONDS, WORDS, changed, has_files, opened,
     put_record, shelf_with,
 };
 use labtop::lab_top;
@@ -37,7 +37,7 @@ fn expect_delivery(rt: &impl Abort, alloc: Global, piece: usize) -> Result<(), M
     shelf.set_piece(piece);
     let done = lab_top(alloc, &WORDS, &mut shelf);
     assert_eq!(rt; done.status, Status::Done, "by {piece}");
-    expect_files(rt, &shelf, Some(DELIVERY), Some(REPORT));
+    assert!(rt; has_files(&shelf, Some(DELIVERY), Some(REPORT)));
     assert!(rt; has_file(&shelf, "other", b"stays"));
     assert!(rt; has_file(&shelf, "cap", &ONE));
     Ok(())
@@ -68,7 +68,7 @@ fn captures_are_read_in_their_order_of_bytes_and_unit(rt: HostRuntime) -> Result
         let mut shelf = shelf_with(alloc, capture)?;
         let done = lab_top(alloc, &WORDS, &mut shelf);
         assert_eq!(rt; done.status, Status::Done);
-        expect_files(&rt, &shelf, Some(DELIVERY), Some(report));
+        assert!(rt; has_files(&shelf, Some(DELIVERY), Some(report)));
     }
     Ok(())
 }
@@ -93,7 +93,7 @@ fn expect_over(rt: &impl Abort, alloc: Global, link: u16, header: &[u8]) -> Resu
     let mut shelf = shelf_with(alloc, &capture_over(alloc, link, &frame)?)?;
     let done = lab_top(alloc, &WORDS, &mut shelf);
     assert_eq!(rt; done.status, Status::Done, "over {link}");
-    expect_files(rt, &shelf, Some(DELIVERY), Some(REPORT));
+    assert!(rt; has_files(&shelf, Some(DELIVERY), Some(REPORT)));
     Ok(())
 }
 
@@ -126,7 +126,7 @@ fn datagrams_are_read_over_ipv6(rt: HostRuntime) -> Result<(), Fail> {
     assert_eq!(rt; done.status, Status::Done);
     let delivery =
         "new 1 udp 2001:0db8:0000:0000:0000:0000:0000:0001 5000 2001:0db8:0000:0000:0000:0000:0000:0002 53\ndata 1 > 0 0 0 0 6869\nend 1 finish\n";
-    expect_files(&rt, &shelf, Some(delivery), Some(REPORT));
+    assert!(rt; has_files(&shelf, Some(delivery), Some(REPORT)));
     Ok(())
 }
 
@@ -138,7 +138,7 @@ fn an_empty_capture_gives_an_empty_delivery_file(rt: HostRuntime) -> Result<(), 
     assert_eq!(rt; done.status, Status::Done);
     let report =
         "scap report 1\ncores 1 workers 1\ncore 0\nworker 0\nrecords 0 accepted 0 filtered 0 other 0 fragment 0 short 0\nbytes payload 0 delivered 0 duplicate 0 late 0 cut 0 shed 0\nbudget stamps 0 peak 0 refused 0\nstatus 0\n";
-    expect_files(&rt, &shelf, Some(""), Some(report));
+    assert!(rt; has_files(&shelf, Some(""), Some(report)));
     Ok(())
 }
 
@@ -166,7 +166,7 @@ fn conversations_are_told_apart_by_their_ends(rt: HostRuntime) -> Result<(), Fai
         "new 1 udp 10.0.0.2 50 10.0.0.3 53\nnew 4 udp 10.0.0.2 50 10.0.0.1 7\nnew 7 udp 10.0.0.3 54 10.0.0.2 50\nnew 8 udp 10.0.0.9 9 10.0.0.9 9\ndata 1 > 0 0 0 0 616263\ndata 1 < 0 0 0 0 78797a77\nend 1 finish\ndata 4 > 0 0 0 0 71\nend 4 finish\nend 7 finish\ndata 8 > 0 0 0 0 6566\nend 8 finish\n";
     let report =
         "scap report 1\ncores 1 workers 1\ncore 0\nseg 1 1 1000000000 +2@0:0\nans 1 1 .\nseg 1 2 1000000000 +3@1:2\nseg 1 3 1000000000\nseg 4 4 2000000000 +1@2:5\nans 4 2 .\nseg 1 5 2000000000 +1@3:6\nseg 1 6 2000000000 +1@4:7\nseg 7 7 3000000000\nans 7 3 .\nseg 8 8 3000000000 +1@5:8\nans 8 4 .\nseg 8 9 3000000000 +1@6:9\nend 1 3000000000 finish\nend 4 3000000000 finish\nend 7 3000000000 finish\nend 8 3000000000 finish\nans 1 5 . ~2@7 ~1@8\nans 1 6 . ~3@9 ~1@10\nans 1 7 .\nans 4 8 . ~1@11\nans 4 9 .\nans 7 10 .\nans 8 11 . ~1@12 ~1@13\nans 8 12 .\nworker 0\nfrom 0 12\ndir 1 > 3 3 0 0 0 0 0 0\ndir 1 < 4 4 0 0 0 0 0 0\ndir 4 > 1 1 0 0 0 0 0 0\ndir 4 < 0 0 0 0 0 0 0 0\ndir 7 > 0 0 0 0 0 0 0 0\ndir 7 < 0 0 0 0 0 0 0 0\ndir 8 > 2 2 0 0 0 0 0 0\ndir 8 < 0 0 0 0 0 0 0 0\nrecords 9 accepted 9 filtered 0 other 0 fragment 0 short 0\nbytes payload 10 delivered 10 duplicate 0 late 0 cut 0 shed 0\nbudget stamps 14 peak 10 refused 0\nstatus 0\n";
-    expect_files(&rt, &shelf, Some(delivery), Some(report));
+    assert!(rt; has_files(&shelf, Some(delivery), Some(report)));
     Ok(())
 }
 

@@ -1,22 +1,12 @@
-//! Tests of the commands of one thread over files in memory: what no clause says, as that a run succeeds with ample memory.
+//! Tests of drills over files in memory: what no clause says, as that a run succeeds with ample memory.
 //! Promises nothing to a layer above.
-//! Stands on labtop, scapconf (statuses, settings), pcapfile (captures, the faults of a head), prio_budget (marks) and scap_world
+//! Stands on labtop, labcases, scapconf (statuses, settings), pcapfile (captures, the faults of a head), prio_budget (marks) and scap_world
 //! (the files).
 #![tactic(auto)]
 
 #[cfg(test)]
 mod budgets;
 #[cfg(test)]
-mod captures;
-#[cfg(test)]
 mod deliveries;
 #[cfg(test)]
 mod faults;
-#[cfg(test)]
-mod matches;
-#[cfg(test)]
-mod refusals;
-#[cfg(test)]
-mod settings;
-#[cfg(test)]
-mod skipped;

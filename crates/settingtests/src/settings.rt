@@ -1,4 +1,4 @@
-use crate::captures::{DELIVERY, ONE, REPORT, expect_files, holds, opened, put_record, shelf_with};
+use labcases::{DELIVERY, ONE, REPORT, has_files, holds, opened, put_record, shelf_with};
 use labtop::lab_top;
 use scap_world::{FailCall, MemShelf};
 use scapconf::{SettingsKind, Status};
@@ -27,7 +27,7 @@ fn settings_that_say_nothing_are_the_defaults(rt: HostRuntime) -> Result<(), Fai
         let mut shelf = shelf_of(alloc, text, &ONE)?;
         let done = lab_top(alloc, &WORDS, &mut shelf);
         assert_eq!(rt; done.status, Status::Done);
-        expect_files(&rt, &shelf, Some(DELIVERY), Some(REPORT));
+        assert!(rt; has_files(&shelf, Some(DELIVERY), Some(REPORT)));
     }
     Ok(())
 }
@@ -119,7 +119,7 @@ fn what_is_not_built_of_settings_is_answered(rt: HostRuntime) -> Result<(), Fail
         shelf.add("set", text.as_bytes())?;
         let done = lab_top(alloc, &WORDS, &mut shelf);
         assert_eq!(rt; done.status, Status::Unbuilt, "of {text}");
-        expect_files(&rt, &shelf, None, None);
+        assert!(rt; has_files(&shelf, None, None));
     }
     Ok(())
 }
@@ -138,7 +138,7 @@ fn a_fault_of_the_settings_comes_before_the_capture(rt: HostRuntime) -> Result<(
         shelf.add("set", text.as_bytes())?;
         let done = lab_top(alloc, &WORDS, &mut shelf);
         assert_eq!(rt; done.status, Status::Settings { line, kind }, "of {text}");
-        expect_files(&rt, &shelf, None, None);
+        assert!(rt; has_files(&shelf, None, None));
     }
     Ok(())
 }
@@ -173,7 +173,7 @@ fn settings_that_cannot_be_read_are_a_read_fault(rt: HostRuntime) -> Result<(), 
         shelf.fail("set", FailCall::Read, nth)?;
         let done = lab_top(alloc, &WORDS, &mut shelf);
         assert_eq!(rt; done.status, Status::ReadFault, "read {nth}");
-        expect_files(&rt, &shelf, None, None);
+        assert!(rt; has_files(&shelf, None, None));
     }
     let mut shelf = shelf_of(alloc, b"chunk 4", &ONE)?;
     shelf.fail("set", FailCall::Read, 3)?;
@@ -217,7 +217,7 @@ fn each_call_of_a_drill_with_settings_can_fail(rt: HostRuntime) -> Result<(), Fa
         shelf.fail(name, call, most + 1)?;
         let done = lab_top(alloc, &WORDS, &mut shelf);
         assert_eq!(rt; done.status, Status::Done, "{name}");
-        expect_files(&rt, &shelf, Some(DELIVERY), Some(REPORT));
+        assert!(rt; has_files(&shelf, Some(DELIVERY), Some(REPORT)));
     }
     Ok(())
 }
@@ -267,7 +267,7 @@ fn words_with_settings_are_taken_as_they_are_said(rt: HostRuntime) -> Result<(),
         let mut shelf = shelf_with(alloc, &ONE)?;
         let done = lab_top(alloc, words, &mut shelf);
         assert_eq!(rt; done.status, status, "at {words:?}");
-        expect_files(&rt, &shelf, None, None);
+        assert!(rt; has_files(&shelf, None, None));
     }
     Ok(())
 }

@@ -1,6 +1,6 @@
 ghost use Rattle.std.specs.Prelude.{◌<◌, length};
 
-use crate::captures::{ONE, changed, opened, put_record, shelf_with};
+use labcases::{ONE, changed, opened, put_record, shelf_with};
 use labtop::lab_top;
 use pcapfile::{HeadFault, put_frame};
 use scap_world::{FailCall, MemShelf};
