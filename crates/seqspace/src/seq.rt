@@ -1,4 +1,4 @@
-ghost use Rattle.std.specs.Prelude.{◌≡◌, ◌+◌, ◌%◌, ◌<◌, ◌^◌};
+ghost use Rattle.std.specs.Prelude.{◌≡◌, ◌+◌, ◌%◌, ◌<◌, ◌^◌, pos, ◌+ℤ◌, ◌-ℤ◌, ◌≤ℤ◌, ◌<ℤ◌};
 ghost use Rattle.streamdefs.specs.Seqspace.{place as position};
 
 /// A sequence number of TCP. They count the bytes of a direction modulo 2^32.
@@ -22,7 +22,11 @@ pub fn after(seq: Seq, n: u32) -> Seq
 /// own position is the one before which all bytes were passed. It is negative where the number lies before the base.
 pub fn place(base: Seq, seq: Seq, front: u64) -> i64
     requires { front < 2 ^ 62 }
-    ensures { result ≡ position base.0 seq.0 front }
+    ensures is { result ≡ position base.0 seq.0 front }
+
+    // It lies within 2^31 of the front, the front less 2^31 among them.
+    ensures from { (pos front -ℤ pos (2 ^ 31)) ≤ℤ result }
+    ensures until { result <ℤ (pos front +ℤ pos (2 ^ 31)) }
 {
     let of_front = base.0.wrapping_add((front % NUMBERS) as u32);
     let beyond = seq.0.wrapping_add(HALF).wrapping_sub(of_front);

@@ -1,0 +1,4 @@
+pub mod Frags
+pub mod Starts
+pub mod Search
+pub mod StoreParts

@@ -1,0 +1,88 @@
+ghost use Rattle.std.specs.Prelude.{◌≡◌, ◌+◌, ◌<◌, ◌≤◌, ◌^◌, length, OnOk, OnErr};
+ghost use Rattle.reorder.specs.Frags.{end_of, cells_of, cells_with, bytes_in};
+
+use crate::over::Over;
+use crate::settlement::{settled_runs, write_runs};
+use crate::start_run::StartRun;
+use chunkpart::Memory;
+use prio_budget::{Charge, Part};
+use std::alloc::Global;
+use std::marker::Model;
+
+/// A held part from a position on, with the starts of its bytes. The first run of starts takes no memory.
+#[derive(Drop)]
+pub(crate) struct Held<C: Charge> {
+    at: u64,
+    part: Part<C>,
+    first: StartRun,
+    more: Vec<StartRun>,
+}
+
+impl<C: Charge> Model for Held<C> {
+    ghost use Rattle.std.specs.Prelude.{◌≡◌, ◌+◌, ◌≤◌, ◌^◌, ◌∷◌, length};
+    ghost use Rattle.reorder.specs.Frags.{Frag};
+    ghost use Rattle.reorder.specs.Starts.{run_bytes, cells_in};
+
+    ghost Value = { Frag C };
+
+    ghost view = { λ h. record { at = h.at; cells = cells_in (h.first ∷ h.more.items) h.part.0; charge = h.part.1 } };
+
+    ghost invariant = { λ h. (run_bytes (h.first ∷ h.more.items) ≡ length h.part.0) × (h.at + length h.part.0 ≤ 2 ^ 62) };
+}
+
+impl<C: Charge> Held<C> {
+    /// Bytes of one segment.
+    pub(crate) fn new(alloc: Global, at: u64, start: i64, part: Part<C>) -> Held<C>
+        requires { at + length part.0 ≤ 2 ^ 62 }
+        ensures { result ≡ record { at = at; cells = cells_of start part.0; charge = part.1 } }
+    {
+        let len = part.bytes().len() as u64;
+        Held {
+            at,
+            part,
+            first: StartRun { len, start },
+            more: Vec::new(alloc),
+        }
+    }
+
+    pub(crate) fn at(&self) -> u64
+        ensures { result ≡ self.now.at }
+    {
+        self.at
+    }
+
+    pub(crate) fn len(&self) -> u64
+        ensures { result ≡ length self.now.cells }
+    {
+        self.part.bytes().len() as u64
+    }
+
+    /// The position behind it.
+    pub(crate) fn end(&self) -> u64
+        ensures { result ≡ end_of self.now }
+    {
+        self.at + self.len()
+    }
+
+    pub(crate) fn into_part(self) -> Part<C>
+        ensures { result ≡ (bytes_in self.cells, self.charge) }
+    {
+        self.part
+    }
+
+    /// Settles overlap with a later segment's bytes. At want of memory nothing changes.
+    pub(crate) fn overlay(&mut self, alloc: Global, over: Over, bytes: &[u8]) -> Result<(), Memory>
+        requires { over.to ≡ over.from + length bytes.now }
+        ensures ok { OnOk result (self.new ≡ record self.old { cells = cells_with over.policy over.start over.from bytes.now self.old.at self.old.cells }) }
+        ensures err { OnErr result (self.new ≡ self.old) }
+    {
+        let made = settled_runs(alloc, over, self.at, self.first, &self.more)?;
+        write_runs(&mut self.part, over, bytes, self.at, self.first, &self.more);
+        self.first = StartRun {
+            len: 0,
+            start: over.start,
+        };
+        self.more = made;
+        Ok(())
+    }
+}
