@@ -1,3 +1,4 @@
 pub mod Parts
 pub mod ChunkParts
 pub mod Positions
+pub mod LastBytes

@@ -1,7 +1,8 @@
-ghost use Rattle.std.specs.Prelude.{◌≡◌, ◌+◌, ◌<◌, ◌≤◌, ◌^◌, ◌↔◌, [], ◌∷◌, ◌++◌, length, take, None, IsOk, IsNone, OnOk, OnErr, IfErr, vec_len, option_to_list};
+ghost use Rattle.std.specs.Prelude.{◌≡◌, ◌+◌, ◌-◌, ◌<◌, ◌≤◌, ◌^◌, ◌↔◌, [], ◌∷◌, ◌++◌, length, take, drop, None, IsOk, IsNone, OnOk, OnErr, IfOk, IfErr, vec_len, option_to_list};
 ghost use Rattle.std.specs.Vec.{vec_capacity};
 ghost use Rattle.chunkpart.specs.Parts.{bytes_of};
 ghost use Rattle.chunkpart.specs.ChunkParts.{copied_bytes, fresh_bytes, parts_of, shown_bytes};
+ghost use Rattle.chunkpart.specs.LastBytes.{last_of};
 
 use crate::Memory;
 use prio_budget::{Charge, Part};
@@ -143,6 +144,35 @@ impl<C: Charge> Chunk<C> {
         put_parts(second, out)
     }
 
+    /// Appends the last `n` fresh bytes. At want of memory `out` holds what it held.
+    pub fn last(&self, n: u32, out: &mut Vec<u8>) -> Result<(), Memory>
+        requires { n ≤ length (fresh_bytes self.now) }
+        ensures ok { OnOk result (out.new.items ≡ out.old.items ++ last_of n (fresh_bytes self.now)) }
+        ensures err { OnErr result (out.new.items ≡ out.old.items) }
+        ensures full { OnErr result (vec_capacity out.old < vec_len out.old + n) }
+    {
+        let before = out.len();
+        if self.put_last(n, out).is_err() {
+            out.truncate(before);
+            return Err(Memory);
+        }
+        Ok(())
+    }
+
+    /// As `last`, but at want of memory some of the bytes may stand behind those that `out` held.
+    fn put_last(&self, n: u32, out: &mut Vec<u8>) -> Result<(), Memory>
+        requires { n ≤ length (fresh_bytes self.now) }
+        ensures ok { OnOk result (out.new.items ≡ out.old.items ++ last_of n (fresh_bytes self.now)) }
+        ensures front { take (length out.old.items) out.new.items ≡ out.old.items }
+        ensures full { OnErr result (vec_capacity out.old < vec_len out.old + n) }
+    {
+        let skipped = self.fresh_len - u64::from(n);
+        let (first, second) = self.fresh.as_slices();
+        let left = put_parts_behind(first, skipped, out)?;
+        put_parts_behind(second, left, out)?;
+        Ok(())
+    }
+
     /// The next part: the copy first, then the fresh parts in order. None where no part is left. Start and gap stay
     /// what they were, those of the whole chunk.
     pub fn take_part(&mut self) -> Option<Part<C>>
@@ -174,4 +204,41 @@ fn put_parts<C: Charge>(parts: &[Part<C>], out: &mut Vec<u8>) -> Result<(), Memo
         out.extend_from_slice(part.bytes())?;
     }
     Ok(())
+}
+
+/// Appends what stands behind the first `skipped` bytes of parts, and tells how many more bytes are to be skipped. At want
+/// of memory some of it may stand behind what `out` held.
+fn put_parts_behind<C: Charge>(
+    parts: &[Part<C>],
+    skipped: u64,
+    out: &mut Vec<u8>,
+) -> Result<u64, Memory>
+    ensures ok { OnOk result (out.new.items ≡ out.old.items ++ drop skipped (bytes_of parts.now)) }
+    ensures left { IfOk result (λ left. left ≡ skipped - length (bytes_of parts.now)) }
+    ensures front { take (length out.old.items) out.new.items ≡ out.old.items }
+    ensures capacity { vec_capacity out.old ≤ vec_capacity out.new }
+    ensures full { OnErr result (vec_capacity out.old < vec_len out.old + length (drop skipped (bytes_of parts.now))) }
+{
+    let mut left = skipped;
+    for part in parts {
+        left = put_behind(part.bytes(), left, out)?;
+    }
+    Ok(left)
+}
+
+/// As `put_parts_behind`, of bytes. At want of memory `out` holds what it held.
+fn put_behind(bytes: &[u8], skipped: u64, out: &mut Vec<u8>) -> Result<u64, Memory>
+    ensures ok { OnOk result (out.new.items ≡ out.old.items ++ drop skipped bytes.now) }
+    ensures left { IfOk result (λ left. left ≡ skipped - length bytes.now) }
+    ensures err { OnErr result (out.new.items ≡ out.old.items) }
+    ensures capacity { vec_capacity out.old ≤ vec_capacity out.new }
+    ensures full { OnErr result (vec_capacity out.old < vec_len out.old + length (drop skipped bytes.now)) }
+{
+    let len = bytes.len() as u64;
+    if len <= skipped {
+        return Ok(skipped - len);
+    }
+    let (_, behind) = bytes.split_at(skipped as usize);
+    out.extend_from_slice(behind)?;
+    Ok(0)
 }

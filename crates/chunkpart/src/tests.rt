@@ -106,6 +106,30 @@ fn the_copy_and_the_fresh_bytes_are_shown(rt: HostRuntime) -> Result<(), Fail> {
 }
 
 #[test]
+fn the_last_fresh_bytes_are_appended(rt: HostRuntime) -> Result<(), Fail> {
+    let alloc = rt.alloc();
+    // the copy, the fresh parts, the number of bytes, and the bytes
+    let rows = [
+        ("", "def|", 2, "> ef"),
+        ("or", "der| in|", 0, "> "),
+        ("or", "der| in|", 2, "> in"),
+        ("or", "der| in|", 5, "> er in"),
+        ("or", "der| in|", 6, "> der in"),
+        ("", "a||bc|d||", 3, "> bcd"),
+    ];
+    for (copy, fresh, n, last) in rows {
+        let chunk = chunk_of(alloc, 0, 0, copy, fresh)?;
+        if u64::from(n) > chunk.fresh_len() {
+            return Err("too few bytes".into());
+        }
+        let mut out = b"> ".to_vec(alloc)?;
+        assert_eq!(rt; chunk.last(n, &mut out), Ok(()));
+        assert_eq!(rt; out.as_slice(), last.as_bytes());
+    }
+    Ok(())
+}
+
+#[test]
 fn parts_are_given_once_in_order(rt: HostRuntime) -> Result<(), Fail> {
     let alloc = rt.alloc();
     let mut chunk = chunk_of(alloc, 1400, 20, "or", "der|| in|")?;

@@ -1,9 +1,12 @@
-ghost use Rattle.std.specs.Prelude.{◌≡◌, ◌<◌, ◌≤◌, [], ◌∷◌, ◌++◌, length, IfOk, IfErr, OnOk, OnErr};
+ghost use Rattle.std.specs.Prelude.{◌≡◌, ◌<◌, ◌≤◌, ◌↔◌, [], ◌∷◌, ◌++◌, All, length, false, option_copied, IfOk, IfErr, IsNone, OnOk, OnErr};
+ghost use Rattle.capfilter.specs.Truth.{truth};
+ghost use Rattle.cutclass.specs.InForce.{first_class};
 ghost use Rattle.cutclass.specs.Refusal.{IsRefusal};
 
 use crate::{ClassError, ClassRule, Memory};
 use std::alloc::Global;
 use std::marker::Model;
+use streamkey::{Key, Toward};
 
 /// The most classes.
 pub const MOST_CLASSES: usize = 32;
@@ -60,6 +63,16 @@ impl Classes {
         ensures few { length self.now ≤ MOST_CLASSES }
     {
         &self.items
+    }
+
+    /// The class of conversations whose first packet has this key and way: the first whose filter holds.
+    pub fn find(&self, key: &Key, toward: Toward) -> Option<&ClassRule>
+        ensures first { option_copied result ≡ first_class self.now key.now toward }
+        ensures none { IsNone result ↔ All (λ rule. truth rule.filter key.now toward ≡ false) self.now }
+    {
+        self.items
+            .iter()
+            .find(|rule| rule.filter.matches(key, toward))
     }
 
     /// Equal classes in the same order.

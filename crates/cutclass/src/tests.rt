@@ -2,6 +2,7 @@ use crate::*;
 use capfilter::Filter;
 use std::alloc::Global;
 use std::test::Fail;
+use streamkey::{Addr, End, Key, Proto};
 
 fn rule_of(alloc: Global, priority: u8, cut: Cut, filter: &str) -> Result<ClassRule, Fail> {
     Ok(ClassRule {
@@ -63,5 +64,50 @@ fn copies_are_equal(rt: HostRuntime) -> Result<(), Fail> {
         shown(rt.alloc(), &rules[1])?.as_str(),
         "0 Unset not net 10.0.0.0/8"
     );
+    Ok(())
+}
+
+#[test]
+fn the_first_set_cutoff_is_in_force(rt: HostRuntime) {
+    let rows = [
+        (Cut::At(4), Cut::At(10), Cut::Endless, Cut::Unset, Some(4)),
+        (Cut::Unset, Cut::At(10), Cut::At(9), Cut::At(8), Some(10)),
+        (Cut::Unset, Cut::Unset, Cut::At(0), Cut::At(9), Some(0)),
+        (Cut::Unset, Cut::Unset, Cut::Unset, Cut::At(9), Some(9)),
+        (Cut::Unset, Cut::Endless, Cut::At(1), Cut::At(9), None),
+        (Cut::Endless, Cut::At(2), Cut::At(1), Cut::At(9), None),
+        (Cut::Unset, Cut::Unset, Cut::Unset, Cut::Unset, None),
+    ];
+    for (stream, class, direction, default, position) in rows {
+        assert_eq!(rt; in_force(stream, class, direction, default), position);
+    }
+}
+
+#[test]
+fn the_first_class_that_holds_is_found(rt: HostRuntime) -> Result<(), Fail> {
+    let mut classes = Classes::new(rt.alloc());
+    classes.add(rule_of(rt.alloc(), 1, Cut::Unset, "dst port 53")?)?;
+    classes.add(rule_of(rt.alloc(), 2, Cut::At(9), "udp")?)?;
+    classes.add(rule_of(rt.alloc(), 3, Cut::Endless, "port 53")?)?;
+    let near = End {
+        addr: Addr::V4([10, 0, 0, 1]),
+        port: 5000,
+    };
+    let far = End {
+        addr: Addr::V4([10, 0, 0, 2]),
+        port: 53,
+    };
+    let rows = [
+        (Proto::Udp, near, far, Some(1)),
+        (Proto::Udp, far, near, Some(2)),
+        (Proto::Tcp, near, far, Some(1)),
+        (Proto::Tcp, far, near, Some(3)),
+        (Proto::Tcp, near, near, None),
+    ];
+    for (proto, source, target, priority) in rows {
+        let (key, toward) = Key::of(proto, source, target);
+        let found = classes.find(&key, toward).map(|rule| rule.priority);
+        assert_eq!(rt; found, priority);
+    }
     Ok(())
 }

@@ -1,4 +1,4 @@
-use Rattle.std.proofs.Common.{◌≡◌, ◌≢◌, Bool, true, false, sym, ◌∙◌, ap, refl, cond}
+use Rattle.std.proofs.Common.{◌≡◌, ◌≢◌, Bool, true, false, sym, ◌∙◌, ap, refl, cond, subst}
 use Rattle.streamkey.specs.declared.proto.Proto.{Proto}
 use Rattle.streamkey.specs.declared.end.End.{End}
 use Rattle.streamkey.specs.declared.key.Key.{Key}
@@ -6,6 +6,7 @@ use Rattle.streamkey.specs.declared.toward.Toward.{Toward}
 use Rattle.streamkey.specs.declared.toward.Toward.TheVariants.{Up, Down}
 use Rattle.streamkey.specs.Order.{end_before}
 use Rattle.streamkey.specs.Key.{key_of, source_of, target_of, opposite, IsOrdered}
+use Rattle.streamkey.specs.Packet.{IsWay}
 use Rattle.streamkey.proofs.OrderLemmas.{end_before-turned, end_before-same}
 
 -- the key and way by what is known of the ends
@@ -22,6 +23,16 @@ pub key_of-up : (proto : Proto) (source target : End) → end_before target sour
     → key_of proto source target ≡ (record { proto = proto; low = source; high = target }, Up)
 unfolding key_when
 key_of-up proto source target h = ap (λ (b : Bool). key_when proto source target b) h
+
+-- the key and the way of two ends are those of a packet between them
+way_when : (proto : Proto) (source target : End) (b : Bool) → end_before target source ≡ b → IsWay (key_of proto source target).0 (key_of proto source target).1
+way_when proto source target true e =
+    subst (λ (p : Key × Toward). IsWay p.0 p.1) (sym (key_of-down proto source target e)) (key_of-down proto source target e)
+way_when proto source target false e =
+    subst (λ (p : Key × Toward). IsWay p.0 p.1) (sym (key_of-up proto source target e)) (key_of-up proto source target e)
+
+pub way_of-ends : (proto : Proto) (source target : End) → IsWay (key_of proto source target).0 (key_of proto source target).1
+way_of-ends proto source target = way_when proto source target _ refl
 
 -- two ends that differ: one comes before the other
 end_before-apart : (b : Bool) (low high : End) → end_before low high ≡ b → end_before high low ≡ false → low ≢ high → b ≡ true

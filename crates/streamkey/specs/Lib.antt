@@ -4,3 +4,5 @@ pub mod KeyParts
 pub mod Key
 pub mod Hash
 pub mod Rows
+pub mod Packet
+pub mod PacketSeen

@@ -27,6 +27,7 @@ impl Model for Key {
 
 impl Key {
     ghost use Rattle.streamkey.specs.Key.{key_of, source_of, target_of, IsOrdered};
+    ghost use Rattle.streamkey.specs.Packet.{IsWay};
 
     /// The key of a packet from `source` to `target`, and its way.
     pub fn of(proto: Proto, source: End, target: End) -> (Key, Toward)
@@ -34,6 +35,7 @@ impl Key {
         ensures source { source_of result.0 result.1 ≡ source }
         ensures target { target_of result.0 result.1 ≡ target }
         ensures ordered { IsOrdered result.0 }
+        ensures way { IsWay result.0 result.1 }
     {
         if target < source {
             let key = Key {

@@ -5,6 +5,7 @@ ghost use Rattle.streamkey.specs.Order.{addr_order, end_order, key_order, proto_
 ghost use Rattle.streamkey.specs.Address.{HasItsBytes};
 ghost use Rattle.streamkey.specs.Hash.{core_number, hash_input, toeplitz_of, IsSymmetric};
 ghost use Rattle.streamkey.specs.Key.{key_of, opposite, source_of, target_of};
+ghost use Rattle.streamkey.specs.Packet.{IsWay};
 ghost use Rattle.streamkey.specs.declared.toward.Toward.TheVariants.{Up};
 ghost use Rattle.std.specs.declared.cmp.Ordering.TheVariants.{Equal};
 
@@ -53,6 +54,11 @@ pub fn readings_give_the_key(key: &Key, toward: Toward)
 {
     let _ = &key.low;
 }
+
+/// The key and the way of two ends are those of a packet between them.
+pub fn two_ends_give_a_way(proto: Proto, source: End, target: End)
+    ensures { IsWay (key_of proto source target).0 (key_of proto source target).1 }
+{}
 
 /// Packets of both ways have one key, and their ways are opposite where the ends differ.
 pub fn both_ways_give_one_key(proto: Proto, source: End, target: End)

@@ -1,4 +1,4 @@
-use crate::{Addr, End, Key, Proto, Toward, core_of, toeplitz};
+use crate::{Addr, End, Key, Packet, Proto, Toward, core_of, toeplitz};
 use std::alloc::{AllocError, Global};
 use std::collections::BTreeMap;
 use std::test::Fail;
@@ -144,4 +144,23 @@ fn bytes_of_any_number_are_hashed(rt: HostRuntime) {
     assert_eq!(rt; toeplitz(&[128]), 0x6d5a_6d5a);
     assert_eq!(rt; toeplitz(&[0, 1]), 0x36ad_36ad);
     assert_eq!(rt; toeplitz(b"abc"), 0x10a2_10a2);
+}
+
+#[test]
+fn packets_are_copied_with_their_control_bits(rt: HostRuntime) -> Result<(), Fail> {
+    // the protocol and the control bits of a packet, and whether it has FIN, SYN, RST
+    let rows = [
+        (Proto::Tcp, 0b0000_0010, [false, true, false]),
+        (Proto::Tcp, 0b0001_0001, [true, false, false]),
+        (Proto::Tcp, 0b1111_1100, [false, false, true]),
+        (Proto::Udp, 0b0000_0111, [false, false, false]),
+    ];
+    for (proto, flags, bits) in rows {
+        let (key, toward) = Key::of(proto, server(), client());
+        let packet = Packet::copy(rt.alloc(), 7, 1 << 62, key, toward, 5, flags, 9, b"hi")?;
+        let found = [packet.has_fin(), packet.has_syn(), packet.has_rst()];
+        assert_eq!(rt; found, bits);
+        assert_eq!(rt; packet.payload.as_slice(), b"hi".as_slice());
+    }
+    Ok(())
 }

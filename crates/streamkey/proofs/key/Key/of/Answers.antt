@@ -20,3 +20,9 @@ returns-then-lt-clause-ordered c = end_before-turned c.args.target c.args.source
 
 pub returns-else-lt-clause-ordered : goal.returns-else-lt-clause-ordered
 returns-else-lt-clause-ordered c = sym (lt-end_before c.args.target c.args.source) ∙ sym c.lt.ensures ∙ c.if-lt.false
+
+pub returns-then-lt-clause-way : goal.returns-then-lt-clause-way
+returns-then-lt-clause-way c = key_of-down c.args.proto c.args.source c.args.target (sym (lt-end_before c.args.target c.args.source) ∙ sym c.lt.ensures ∙ c.if-lt.true)
+
+pub returns-else-lt-clause-way : goal.returns-else-lt-clause-way
+returns-else-lt-clause-way c = key_of-up c.args.proto c.args.source c.args.target (sym (lt-end_before c.args.target c.args.source) ∙ sym c.lt.ensures ∙ c.if-lt.false)
