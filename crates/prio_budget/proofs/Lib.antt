@@ -5,6 +5,7 @@ pub mod OutLemmas
 pub mod ShareLemmas
 pub mod SplitLemmas
 pub mod StepLemmas
+pub mod TestLemmas
 pub mod Totals
 pub mod ViewLemmas
 pub mod WholeLemmas

@@ -12,3 +12,4 @@ pub mod WordAnswers
 pub mod WordParts
 pub mod WordRule
 pub mod WordSteps
+pub mod WordTests

@@ -28,6 +28,8 @@ mod word_budget;
 mod word_charge;
 mod word_rule;
 mod word_terms;
+#[cfg(test)]
+mod word_tests;
 mod word_view;
 
 pub use answered::{Answered, SPENT_STAMP};
