@@ -4,6 +4,8 @@
 #![tactic(auto)]
 
 mod advice;
+#[cfg(test)]
+mod charge_tests;
 mod frees;
 mod giver;
 mod memory;
