@@ -1,2 +1,11 @@
+pub mod AnswerLemmas
 pub mod MarkLemmas
+pub mod MoveLemmas
 pub mod OutLemmas
+pub mod ShareLemmas
+pub mod SplitLemmas
+pub mod StepLemmas
+pub mod TestLemmas
+pub mod Totals
+pub mod ViewLemmas
+pub mod WholeLemmas

@@ -1,9 +1,15 @@
 pub mod Answers
 pub mod BudgetParts
 pub mod ChargeParts
+pub mod History
 pub mod Laws
 pub mod MarkParts
 pub mod Marks
 pub mod Out
 pub mod Rows
 pub mod Share
+pub mod WordAnswers
+pub mod WordParts
+pub mod WordRule
+pub mod WordSteps
+pub mod WordTests
