@@ -11,5 +11,6 @@ pub mod FastRule
 pub mod LawfulRuns
 pub mod RefusedRuns
 pub mod UnderWay
+pub mod Moments
 pub mod Accounted
 pub mod CrowdedRun

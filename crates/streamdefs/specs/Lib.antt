@@ -16,6 +16,8 @@ pub mod Core
 pub mod Lawful
 pub mod Order
 pub mod SoFar
+pub mod RunSoFar
+pub mod RowsSoFar
 pub mod Case
 pub mod Totals
 pub mod Handler
