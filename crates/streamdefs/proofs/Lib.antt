@@ -13,4 +13,6 @@ pub mod RefusedRuns
 pub mod UnderWay
 pub mod Moments
 pub mod Accounted
+pub mod Places
+pub mod WholeHistories
 pub mod CrowdedRun

@@ -11,6 +11,7 @@ pub mod Direction
 pub mod Convo
 pub mod Want
 pub mod Ordered
+pub mod Once
 pub mod Amounts
 pub mod Core
 pub mod Lawful
