@@ -12,6 +12,7 @@ pub mod LawfulRuns
 pub mod RefusedRuns
 pub mod UnderWay
 pub mod Moments
+pub mod WholeMoments
 pub mod Accounted
 pub mod Places
 pub mod WholeHistories

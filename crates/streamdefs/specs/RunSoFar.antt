@@ -4,6 +4,7 @@ use Rattle.std.specs.Prelude.{◌≡◌, ⊤, ℕ, ◌%◌, ◌≤◌, ◌⊎◌
 use Rattle.std.specs.Option.{option_to_list}
 use Rattle.std.specs.List.{list_all}
 use Rattle.prio_budget.specs.declared.free.Free.{Free}
+use Rattle.histbook.specs.Budget.{IsSettled}
 use Rattle.streamdefs.specs.Lists.{how_many, Each, EachNumbered, IsPrefixOf}
 use Rattle.streamdefs.specs.Reorder.{Charge}
 use Rattle.streamdefs.specs.Packet.{Packet}
@@ -11,8 +12,8 @@ use Rattle.streamdefs.specs.Terms.{Terms}
 use Rattle.streamdefs.specs.Convo.{Event, kept_of, charges_of, events_in}
 use Rattle.streamdefs.specs.Convo.Event.{New, Chunk, Ended}
 use Rattle.streamdefs.specs.Core.{Line, Told, idle_core, found_by, core_at}
-use Rattle.streamdefs.specs.Lawful.{Handler, CoreRun, handler_at}
-use Rattle.streamdefs.specs.Order.{AreAboveCharges, Rise, FreesInOrder, AreAllAbove, frees_of_answers, along_served}
+use Rattle.streamdefs.specs.Lawful.{Handler, CoreRun, Run, Lawful, AllEnded, segs_in, handler_at}
+use Rattle.streamdefs.specs.Order.{AreAboveCharges, Rise, FreesInOrder, AreAllAbove, OneHistory, all_moves, frees_of_answers, along_served}
 use Rattle.streamdefs.specs.SoFar.{EachSoFar, LawfulSoFar, HistorySoFar}
 
 -- A core at a moment: the packets offered to it, its complete entries, the entry under way, of whose events so many were
@@ -88,11 +89,11 @@ AreFreesFor (Some told) frees =
 
 -- those of an answer: of all its charges, or of none where it keeps them
 abbrev pub AreAllFreesFor : Option Told → List Free → Type 0
-AreAllFreesFor told frees = AreFreesFor told frees × ((frees ≡ []) ⊎ IsWhole told)
+AreAllFreesFor told frees = AreFreesFor told frees × ((frees ≡ []) ⊎ AreAll told)
   where
-    IsWhole : Option Told → Type 0
-    IsWhole None = ⊥
-    IsWhole (Some told) = length frees ≡ length (charges_due told.event)
+    AreAll : Option Told → Type 0
+    AreAll None = ⊥
+    AreAll (Some told) = length frees ≡ length (charges_due told.event)
 
 -- the answers that a core has not taken back are to its next events, in order
 abbrev pub AnswersSoFar : Terms → CoreSoFar → Type 0
@@ -149,3 +150,33 @@ pub record LawfulRunSoFar (r : RunSoFar) : Type 0 where
   pub frees : EachNumbered (λ core c. FreesRiseSoFar (part_of r core c) c.under) 0 r.cores
   pub looks : Each LooksRiseSoFar r.cores
   pub workers : WorkersRiseSoFar r
+
+-- the run that a moment has come to: what was offered, the complete entries, and the workers' lists
+abbrev pub run_of : RunSoFar → Run
+run_of r = record {
+  terms = r.terms;
+  last = r.last;
+  arrivals = map (λ c. c.packets) r.cores;
+  books = map (λ c. c.lines) r.cores;
+  served = map (λ w. w.served) r.workers;
+  handlers = r.handlers;
+}
+
+-- A core that has nothing left to do: no entry is under way, no answer waits, each packet has its entry, each conversation has
+-- ended, and each event is answered.
+pub record IsDone (r : RunSoFar) (c : CoreSoFar) : Type 0 where
+  pub under : c.under ≡ None
+  pub waiting : c.answers ≡ []
+  pub segs : segs_in c.lines ≡ map (λ p. (p, p.now)) c.packets
+  pub ends : AllEnded (core_at r.terms idle_core c.lines)
+  pub answered : (core_at r.terms idle_core c.lines).answered ≡ length (core_at r.terms idle_core c.lines).events
+
+-- nothing is missing: all cores are done, no worker has an event in hand, and all that was granted was freed
+pub record IsWhole (r : RunSoFar) : Type 0 where
+  pub cores : Each (IsDone r) r.cores
+  pub hands : Each (λ w. w.hand ≡ None) r.workers
+  pub settled : IsSettled (all_moves (run_of r))
+
+-- what is lawful so far, with nothing missing, is lawful
+abbrev pub WholeIsLawful : Type 0
+WholeIsLawful = (r : RunSoFar) → LawfulRunSoFar r → IsWhole r → Lawful (run_of r) × OneHistory (run_of r)

@@ -16,6 +16,7 @@ ghost use Rattle.evring.specs.declared.way.Way.{Way};
 ghost use Rattle.streamdefs.specs.Core.{Core, Line, core_after, core_at, find_convo, history};
 ghost use Rattle.streamdefs.specs.Ordered.{IsOrdered};
 ghost use Rattle.streamdefs.specs.Once.{IsDelivered, EachOnce, delivered_at, direction_of, places};
+ghost use Rattle.streamdefs.specs.RunSoFar.{WholeIsLawful};
 ghost use Rattle.streamdefs.specs.Amounts.{amount, amount_in, amount_pieces, amount_granted};
 ghost use Rattle.streamdefs.specs.FastMode.{ComesFast, IsOneAtMost, WaitsForNothing, block_behind};
 
@@ -116,4 +117,10 @@ pub fn histories_keep_order()
 pub fn fast_histories_hold_nothing()
     ensures { (terms : Terms) (first : Packet) (way : Way) (acts : List Act) → WaitsForNothing (kind_of terms (new_convo first))
         → (direction_of way (convo_after terms (new_convo first) acts)).view.held ≡ [] }
+{}
+
+/// What is lawful so far and has nothing missing is a lawful journal with one budget history, in the order of its actors.
+#[tactic(auto, using(crate::proofs::WholeMoments::whole_is_lawful))]
+pub fn whole_moments_are_lawful_runs()
+    ensures { WholeIsLawful }
 {}
