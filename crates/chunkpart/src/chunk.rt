@@ -1,4 +1,4 @@
-ghost use Rattle.std.specs.Prelude.{◌≡◌, ◌+◌, ◌-◌, ◌<◌, ◌≤◌, ◌^◌, ◌↔◌, [], ◌∷◌, ◌++◌, length, take, drop, None, IsOk, IsNone, OnOk, OnErr, IfOk, IfErr, vec_len, option_to_list};
+ghost use Rattle.std.specs.Prelude.{◌≡◌, ◌+◌, ◌-◌, ◌<◌, ◌≤◌, ◌^◌, ◌↔◌, ◌⊎◌, [], ◌∷◌, ◌++◌, length, take, drop, None, IsOk, IsNone, OnOk, OnErr, IfOk, IfErr, vec_len, option_to_list};
 ghost use Rattle.std.specs.Vec.{vec_capacity};
 ghost use Rattle.chunkpart.specs.Parts.{bytes_of};
 ghost use Rattle.chunkpart.specs.ChunkParts.{copied_bytes, fresh_bytes, parts_of, shown_bytes};
@@ -59,13 +59,15 @@ impl<C: Charge> Chunk<C> {
         // Nothing but the room changes, and room that is there is not made again.
         ensures same { self.new ≡ record self.old { room = self.new.room } }
         ensures grows { self.old.room ≤ self.new.room }
+
+        // Room that is made is for as many parts again as there are: so many small calls move each part only a few times.
+        ensures ample { OnOk result ((parts ≤ self.old.room) ⊎ (length self.old.fresh ≤ self.new.room)) }
         ensures there { parts ≤ self.old.room → IsOk result × (self.new ≡ self.old) }
     {
         let filled = self.fresh.len();
         if parts <= self.fresh.capacity() - filled {
             return Ok(());
         }
-        // At least as much again as is filled, so that many small calls move each part only a few times.
         self.fresh.reserve_exact(parts.max(filled))?;
         Ok(())
     }
@@ -75,6 +77,9 @@ impl<C: Charge> Chunk<C> {
         requires { length (fresh_bytes self.old) + length part.0 < 2 ^ 64 }
         ensures ok { OnOk result (self.new ≡ record self.old { fresh = self.old.fresh ++ part ∷ []; room = self.new.room }) }
         ensures reserved { 0 < self.old.room → IsOk result × (self.new.room + 1 ≡ self.old.room) }
+
+        // Where there was none, room is made for as many parts again as there are.
+        ensures ample { OnOk result ((0 < self.old.room) ⊎ (length self.old.fresh ≤ self.new.room + 1)) }
         ensures err { IfErr result (λ back. (back ≡ part) × (self.new ≡ self.old)) }
     {
         if self.reserve(1).is_err() {

@@ -1,4 +1,5 @@
-ghost use Rattle.std.specs.Prelude.{◌≡◌, ◌≢◌, ◌+◌, ◌*◌, ◌≤◌, ◌<◌, ◌++◌, ◌^◌, [], IfOk, OnOk, OnErr, length, drop, vec_len};
+ghost use Rattle.std.specs.Prelude.{◌≡◌, ◌≢◌, ◌+◌, ◌*◌, ◌≤◌, ◌<◌, ◌⊎◌, ◌++◌, ◌^◌, [], IfOk, OnOk, OnErr, length, drop, vec_len};
+ghost use Rattle.std.specs.Vec.{vec_capacity};
 
 use crate::found::{Found, HEADER_SIZE, found_at};
 use crate::head::HEAD_SIZE;
@@ -55,6 +56,22 @@ fn let_go(bytes: &mut Vec<u8>, place: usize) -> usize
     }
 }
 
+/// Puts a piece behind the bytes. Room that is made is for as many bytes again as there are, so that many small pieces
+/// move each byte only a few times.
+fn put_behind(bytes: &mut Vec<u8>, piece: &[u8]) -> Result<(), Memory>
+    ensures ok { OnOk result (bytes.new.items ≡ bytes.old.items ++ piece.now) }
+    ensures err { OnErr result (bytes.new.items ≡ bytes.old.items) }
+    ensures memory { OnErr result (0 < length piece.now) }
+    ensures ample { OnOk result ((vec_len bytes.old + length piece.now ≤ vec_capacity bytes.old) ⊎ (2 * vec_len bytes.old ≤ vec_capacity bytes.new)) }
+{
+    let filled = bytes.len();
+    if piece.len() > bytes.capacity() - filled {
+        bytes.reserve_exact(piece.len().max(filled))?;
+    }
+    bytes.extend_from_slice(piece)?;
+    Ok(())
+}
+
 impl Frames {
     ghost use Rattle.std.specs.Prelude.{◌≡◌, ◌<◌, ◌++◌, [], IfOk, OnOk, OnErr, length};
     ghost use Rattle.pcapfile.specs.State.{State};
@@ -88,7 +105,7 @@ impl Frames {
         ensures memory { OnErr result (0 < length piece.now) }
         ensures fed { OnOk result (IsFed self.old piece.now self.new) }
     {
-        self.stream.extend_from_slice(piece)?;
+        put_behind(&mut self.stream, piece)?;
         Ok(())
     }
 

@@ -8,3 +8,4 @@ pub mod StepLemmas
 pub mod LineLemmas
 pub mod ParseLemmas
 pub mod LawLemmas
+pub mod OutcomeLemmas

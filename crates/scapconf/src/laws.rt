@@ -12,7 +12,7 @@ pub fn texts_have_one_fault()
     ensures { (text : List ℕ) → HasOneFault text }
 {}
 
-/// No text that says settings has a fault.
+/// Each text says settings or has a fault, and none does both.
 pub fn texts_are_read_or_refused()
     ensures { (text : List ℕ) → IsReadOrRefused text }
 {}

@@ -259,6 +259,10 @@ all_quiet : (terms : Terms) (way : Way) (c : Convo) (acts : List Act) → (is_li
 all_quiet terms way c [] h dead = h dead
 all_quiet terms way c (act ∷ acts) h dead = all_quiet terms way (after terms c act) acts (still_quiet terms way c act h) dead
 
+-- nothing waits in a conversation that has ended
+pub ended_waits : (terms : Terms) (first : Packet) (way : Way) (acts : List Act) → is_live (convo_after terms (new_convo first) acts) ≡ false → waiting_of way (convo_after terms (new_convo first) acts) ≡ 0
+ended_waits terms first way acts dead = all_quiet terms way (new_convo first) acts (λ e. new_waits way first) dead
+
 -- of a conversation that has ended each byte that came is delivered or has another class
 pub accounted_at_end : (terms : Terms) (first : Packet) (way : Way) (acts : List Act) → is_live (convo_after terms (new_convo first) acts) ≡ false → IsAccounted (total_of terms (new_convo first) way acts)
 accounted_at_end terms first way acts dead = omega (arith, accounted terms first way acts, all_quiet terms way (new_convo first) acts (λ e. new_waits way first) dead)

@@ -72,7 +72,7 @@ behind_by : (overlap : Bool) (p : Pending) (look : LookEntry) (granted : Bool)
 behind_by overlap p look true = refl
 behind_by overlap p look false = refl
 
-behind_bytes : (terms : Terms) (p : Pending) (looks : List LookEntry) → (pending_behind terms p looks).bytes ≡ []
+pub behind_bytes : (terms : Terms) (p : Pending) (looks : List LookEntry) → (pending_behind terms p looks).bytes ≡ []
 behind_bytes terms p [] = grind arith
 behind_bytes terms p (look ∷ looks) = grind (arith, behind_by true p look look.granted)
 

@@ -11,5 +11,9 @@ pub mod FastRule
 pub mod LawfulRuns
 pub mod RefusedRuns
 pub mod UnderWay
+pub mod Moments
+pub mod WholeMoments
 pub mod Accounted
+pub mod Places
+pub mod WholeHistories
 pub mod CrowdedRun

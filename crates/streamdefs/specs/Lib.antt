@@ -11,11 +11,14 @@ pub mod Direction
 pub mod Convo
 pub mod Want
 pub mod Ordered
+pub mod Once
 pub mod Amounts
 pub mod Core
 pub mod Lawful
 pub mod Order
 pub mod SoFar
+pub mod RunSoFar
+pub mod RowsSoFar
 pub mod Case
 pub mod Totals
 pub mod Handler

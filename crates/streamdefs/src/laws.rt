@@ -9,14 +9,16 @@ ghost use Rattle.streamdefs.specs.Pending.{fresh_in, bytes_in, blocks};
 ghost use Rattle.streamdefs.specs.Direction.{Direction, Deed, Segment, Kind, counts_by, runs_of, pieces_by, pending_by, gone_by, view_after, direction_after, spares_by, sum_of};
 ghost use Rattle.streamdefs.specs.Direction.Deed.{Arrives};
 ghost use Rattle.streamdefs.specs.Packet.{Packet};
-ghost use Rattle.streamdefs.specs.Convo.{Convo, Act, new_convo, after, convo_after, is_live};
-ghost use Rattle.streamdefs.specs.Totals.{total_of};
+ghost use Rattle.streamdefs.specs.Convo.{Convo, Act, new_convo, after, convo_after, is_live, kind_of};
+ghost use Rattle.streamdefs.specs.Totals.{deliveries_of, total_of};
 ghost use Rattle.streamdefs.specs.Accounts.{waiting_of, IsAccountedWith, IsAccounted};
 ghost use Rattle.evring.specs.declared.way.Way.{Way};
 ghost use Rattle.streamdefs.specs.Core.{Core, Line, core_after, core_at, find_convo, history};
 ghost use Rattle.streamdefs.specs.Ordered.{IsOrdered};
+ghost use Rattle.streamdefs.specs.Once.{IsDelivered, EachOnce, delivered_at, direction_of, places};
+ghost use Rattle.streamdefs.specs.RunSoFar.{WholeIsLawful};
 ghost use Rattle.streamdefs.specs.Amounts.{amount, amount_in, amount_pieces, amount_granted};
-ghost use Rattle.streamdefs.specs.FastMode.{ComesFast, IsOneAtMost, block_behind};
+ghost use Rattle.streamdefs.specs.FastMode.{ComesFast, IsOneAtMost, WaitsForNothing, block_behind};
 
 /// Each byte of a payload has one class: the five counts are its length.
 #[tactic(auto, using(crate::proofs::CountedOnce::counted_once))]
@@ -93,4 +95,32 @@ pub fn a_fast_run_is_a_range()
 pub fn histories_grow_by_an_entry()
     ensures history { (terms : Terms) (c : Convo) (acts : List Act) (act : Act) → convo_after terms c (acts ++ act ∷ []) ≡ after terms (convo_after terms c acts) act }
     ensures book { (terms : Terms) (core : Core) (lines : List Line) (line : Line) → core_at terms core (lines ++ line ∷ []) ≡ core_after terms (core_at terms core lines) line }
+{}
+
+/// Over every history of a conversation, from its first entry on, a direction delivers its flow, each byte once at its
+/// position: what is delivered and what is pending behind it are the flow, and once the conversation has ended nothing is
+/// pending. No position is delivered twice.
+pub fn histories_deliver_each_byte_once()
+    ensures so_far { (terms : Terms) (first : Packet) (way : Way) (acts : List Act)
+        → IsDelivered (deliveries_of terms (new_convo first) way acts) (direction_of way (convo_after terms (new_convo first) acts)) }
+    ensures at_end { (terms : Terms) (first : Packet) (way : Way) (acts : List Act) → is_live (convo_after terms (new_convo first) acts) ≡ false
+        → delivered_at (deliveries_of terms (new_convo first) way acts) ≡ places (direction_of way (convo_after terms (new_convo first) acts)).view.flow }
+    ensures once { (terms : Terms) (first : Packet) (way : Way) (acts : List Act) → EachOnce (delivered_at (deliveries_of terms (new_convo first) way acts)) }
+{}
+
+/// Over every history the positions of the held bytes and of the flow rise, and each stands there once.
+pub fn histories_keep_order()
+    ensures { (terms : Terms) (first : Packet) (way : Way) (acts : List Act) → IsOrdered (direction_of way (convo_after terms (new_convo first) acts)).view }
+{}
+
+/// Over every history a conversation in fast TCP or UDP holds nothing.
+pub fn fast_histories_hold_nothing()
+    ensures { (terms : Terms) (first : Packet) (way : Way) (acts : List Act) → WaitsForNothing (kind_of terms (new_convo first))
+        → (direction_of way (convo_after terms (new_convo first) acts)).view.held ≡ [] }
+{}
+
+/// What is lawful so far and has nothing missing is a lawful journal with one budget history, in the order of its actors.
+#[tactic(auto, using(crate::proofs::WholeMoments::whole_is_lawful))]
+pub fn whole_moments_are_lawful_runs()
+    ensures { WholeIsLawful }
 {}

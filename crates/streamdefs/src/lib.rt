@@ -7,4 +7,5 @@ pub mod laws;
 pub mod rows_movement;
 pub mod rows_refused;
 pub mod rows_runs;
+pub mod rows_so_far;
 pub mod rows_wants;
