@@ -1,0 +1,21 @@
+-- The digits of a front of some bytes, and of one byte more.
+use Rattle.std.proofs.Common.{◌≡◌, ℕ, ◌+◌, ◌/◌, ◌%◌, ◌<◌, List, [], ◌∷◌, ◌++◌, length, take, get_or, slice_index, ap, refl, sym, ◌∙◌, append_assoc, add-one}
+use Rattle.std.proofs.Math.Seq.{take-suc}
+use Rattle.hex.specs.Hex.{encode_with}
+
+digits_behind : (t xs : List ℕ) (x : ℕ) → encode_with t (xs ++ x ∷ []) ≡ encode_with t xs ++ (slice_index t (x / 16) ∷ slice_index t (x % 16) ∷ [])
+unfolding encode_with
+digits_behind t [] x = refl
+digits_behind t (y ∷ ys) x = ap (λ (l : List ℕ). slice_index t (y / 16) ∷ slice_index t (y % 16) ∷ l) (digits_behind t ys x)
+
+-- one byte more, whose digits are appended one behind the other
+pub digits_more : (t xs : List ℕ) (i high low : ℕ) (o before between after : List ℕ) → i < length xs → before ≡ o ++ encode_with t (take i xs)
+    → high ≡ slice_index t (get_or xs i 0 / 16) → low ≡ slice_index t (get_or xs i 0 % 16)
+    → between ≡ before ++ high ∷ [] → after ≡ between ++ low ∷ [] → after ≡ o ++ encode_with t (take (i + 1) xs)
+digits_more t xs i high low o before between after within e h l p q =
+    let x = get_or xs i 0 in
+    let two = slice_index t (x / 16) ∷ slice_index t (x % 16) ∷ [] in
+    q ∙ ap (λ (b : List ℕ). b ++ low ∷ []) p ∙ append_assoc before (high ∷ []) (low ∷ [])
+    ∙ ap (λ (n : ℕ). before ++ n ∷ low ∷ []) h ∙ ap (λ (n : ℕ). before ++ slice_index t (x / 16) ∷ n ∷ []) l
+    ∙ ap (λ (b : List ℕ). b ++ two) e ∙ append_assoc o (encode_with t (take i xs)) two
+    ∙ ap (λ (b : List ℕ). o ++ b) (sym (digits_behind t (take i xs) x) ∙ ap (encode_with t) (sym (take-suc xs i 0 within)) ∙ ap (λ (n : ℕ). encode_with t (take n xs)) (sym (add-one i)))

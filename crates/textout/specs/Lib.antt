@@ -1,0 +1,4 @@
+pub mod Front
+pub mod Texts
+pub mod Addresses
+pub mod Rows
