@@ -23,3 +23,14 @@ on_err_back (Err _) a b c d e h = front_back a b c d e h
 pub on_err_front : {T E : Type 0} (r : Result T E) (a b c : List ℕ) → b ≡ a ++ c → OnErr r (IsFront a b)
 on_err_front (Ok _) a b c e = tt
 on_err_front (Err _) a b c e = record { rest = c; is = e }
+
+-- what begins with a label and a number behind a text, and what goes on from there
+pub front_counted : (a b x y : List ℕ) → b ≡ a ++ x ++ y → IsFront a b
+front_counted a b x y e = record { rest = x ++ y; is = e ∙ append_assoc a x y }
+
+pub front_over : (a b c : List ℕ) → IsFront a b → IsFront b c → IsFront a c
+front_over a b c h g = front_back a b c h.rest h.is g
+
+pub on_err_over : {T E : Type 0} (r : Result T E) (a b c : List ℕ) → IsFront a b → OnErr r (IsFront b c) → OnErr r (IsFront a c)
+on_err_over (Ok _) a b c h g = tt
+on_err_over (Err _) a b c h g = front_over a b c h g

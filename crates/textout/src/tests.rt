@@ -1,5 +1,6 @@
 use crate::{
     Memory, put_count, put_dotted, put_groups, put_hex, put_number, put_numbers, put_text,
+    read_number,
 };
 
 const ALL: &str =
@@ -43,4 +44,13 @@ fn many_bytes_have_their_digits(rt: HostRuntime) -> Result<(), Memory> {
     assert_eq!(rt; out[131070], b'a');
     assert_eq!(rt; out[131071], b'5');
     Ok(())
+}
+
+#[test]
+fn numbers_are_read(rt: HostRuntime) {
+    assert!(rt; read_number(b"00042", 10, 5, 65535) == Some(42));
+    assert!(rt; read_number(b"65536", 10, 5, 65535) == None);
+    assert!(rt; read_number(b"18446744073709551615", 10, 20, u64::MAX) == Some(u64::MAX));
+    assert!(rt; read_number(b"18446744073709551616", 10, 20, u64::MAX) == None);
+    assert!(rt; read_number(b"FfFf", 16, 4, 65535) == Some(65535));
 }
