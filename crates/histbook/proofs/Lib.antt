@@ -1,4 +1,3 @@
-pub mod FrontLemmas
 pub mod AdviceLemmas
 pub mod RunsLemmas
 pub mod TextLemmas

@@ -1,5 +1,4 @@
 pub mod Runs
-pub mod Front
 pub mod JournalText
 pub mod Parts
 pub mod Budget

@@ -1,12 +1,12 @@
 // The word of an advice.
 ghost use Rattle.std.specs.Prelude.{◌≡◌, ◌++◌, OnOk, OnErr};
-ghost use Rattle.histbook.specs.Front.{IsFront};
+ghost use Rattle.textout.specs.Front.{IsFront};
 ghost use Rattle.histbook.specs.JournalText.{advice_word};
 ghost use Rattle.histbook.specs.Parts.{comma, flag_part, number_part, dot, has_flag, has_more, has_any};
 
 use crate::Memory;
-use crate::put::{put_count, put_text};
 use evring::Advice;
+use textout::{put_count, put_text};
 
 fn put_comma(out: &mut Vec<u8>, behind: bool) -> Result<(), Memory>
     ensures ok { OnOk result (out.new.items ≡ out.old.items ++ comma behind) }

@@ -1,13 +1,13 @@
 // The lines of entries.
 ghost use Rattle.std.specs.Prelude.{◌≡◌, ◌++◌, [], OnOk, OnErr, flat_map};
-ghost use Rattle.histbook.specs.Front.{IsFront};
+ghost use Rattle.textout.specs.Front.{IsFront};
 ghost use Rattle.histbook.specs.JournalText.{look_word, free_word, line_end, reason_word, entry_line, book_lines};
 
 use crate::advice::put_advice;
-use crate::put::{put_count, put_text};
 use crate::{CoreEntry, Entry, LookEntry, Memory};
 use evring::Reason;
 use prio_budget::Free;
+use textout::{put_count, put_text};
 
 #[tactic(auto, unfolding(crate::specs::JournalText::look_word))]
 fn put_look(out: &mut Vec<u8>, look: &LookEntry) -> Result<(), Memory>

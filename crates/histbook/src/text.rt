@@ -1,13 +1,13 @@
 // The text of a journal.
 ghost use Rattle.std.specs.Prelude.{◌≡◌, ◌++◌, All, OnOk, OnErr, flat_map};
 ghost use Rattle.std.specs.List.{enumerate_from};
-ghost use Rattle.histbook.specs.Front.{IsFront};
+ghost use Rattle.textout.specs.Front.{IsFront};
 ghost use Rattle.histbook.specs.JournalText.{core_lines, worker_lines, from_line, served_lines, journal_text};
 ghost use Rattle.histbook.specs.Runs.{HasShortRuns};
 
 use crate::lines::put_book;
-use crate::put::{put_count, put_text};
 use crate::{EntryList, Journal, Memory, WorkList};
+use textout::{put_count, put_text};
 
 fn put_core(out: &mut Vec<u8>, core: u64, book: &EntryList) -> Result<(), Memory>
     ensures ok { OnOk result (out.new.items ≡ out.old.items ++ core_lines (core, book.now)) }

@@ -1,4 +1,4 @@
-use Rattle.histbook.proofs.FrontLemmas.{on_err_back}
+use Rattle.textout.proofs.FrontLemmas.{on_err_back}
 use Rattle.histbook.proofs.lines.put_book.Goals as goal
 
 pub returns-in_err-put_entry-clause-err : goal.returns-in_err-put_entry-clause-err

@@ -1,4 +1,4 @@
-use Rattle.histbook.proofs.FrontLemmas.{on_err_back}
+use Rattle.textout.proofs.FrontLemmas.{on_err_back}
 use Rattle.histbook.proofs.lines.put_looks.Goals as goal
 
 pub returns-in_err-put_look-clause-err : goal.returns-in_err-put_look-clause-err

@@ -1,5 +1,5 @@
 use Rattle.histbook.specs.JournalText.{core_lines}
-use Rattle.histbook.proofs.FrontLemmas.{on_err_back}
+use Rattle.textout.proofs.FrontLemmas.{on_err_back}
 use Rattle.histbook.proofs.TextLemmas.{part_gained}
 use Rattle.histbook.proofs.text.put_cores.Goals as goal
 
