@@ -1,0 +1,5 @@
+pub mod Draws
+pub mod Flows
+pub mod Frame
+pub mod Kept
+pub mod Made
