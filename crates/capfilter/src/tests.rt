@@ -213,6 +213,15 @@ fn limits_are_kept(rt: HostRuntime) -> Result<(), Fail> {
         ),
         // An earlier fault counts first.
         ("foo", " and tcp", 256, "", fault(0, FilterKind::Token)),
+        // Long tokens: 512 of them, and one word.
+        (
+            "net 2001:0db8:0000:0000:0000:0000:0000:0001/128",
+            " or net 2001:0db8:0000:0000:0000:0000:0000:0002/128",
+            170,
+            "",
+            None,
+        ),
+        ("", "a", 5000, "", fault(0, FilterKind::Token)),
     ];
     for (front, text, times, back, expected) in rows {
         let mut all = repeated(rt.alloc(), front, text, times)?;

@@ -111,9 +111,9 @@ one_fault text n m k j (inr f) (inr g) = one_fault_at (lines text) n m k j f.1 g
 long_and_short : (n : ℕ) → 65536 < n → n ≤ 65536 → ⊥
 long_and_short n a b = omega arith
 
-pub not_both : (text : List ℕ) (s : Settings) (n : ℕ) (k : SettingsKind) → Reads text s → ¬ IsFault text n k
-not_both text s n k reads (inl f) = long_and_short (length text) f.0 reads.short
-not_both text s n k reads (inr f) = reads.clean f.1.at f.1.within k f.1.fault.has
+pub read_or_refused : (text : List ℕ) (s : Settings) (n : ℕ) (k : SettingsKind) → Reads text s → ¬ IsFault text n k
+read_or_refused text s n k reads (inl f) = long_and_short (length text) f.0 reads.short
+read_or_refused text s n k reads (inr f) = reads.clean f.1.at f.1.within k f.1.fault.has
 
 -- Settings are told whole.
 
@@ -226,10 +226,10 @@ pub gave_only : (text : List ℕ) (result : Result Settings SettingsError) → I
     → (s : Settings) → Reads text s → MatchResult result (λ r. r ≡ s) (λ e. e ≡ refusals.Memory)
 gave_only text (Ok r) h g s reads = one_meaning text r s h reads
 gave_only text (Err refusals.Memory) h g s reads = refl
-gave_only text (Err (refusals.Fault n k)) h g s reads = absurd (not_both text s n k reads g)
+gave_only text (Err (refusals.Fault n k)) h g s reads = absurd (read_or_refused text s n k reads g)
 
 pub gave_least : (text : List ℕ) (result : Result Settings SettingsError) → IfOk result (Reads text) → IfErr result (IsMemoryOrFault (IsFault text))
     → (n : ℕ) (k : SettingsKind) → IsFault text n k → IsErrAnd result (IsMemoryOrFault (λ m j. (m ≡ n) × (j ≡ k)))
-gave_least text (Ok r) h g n k fault = not_both text r n k h fault
+gave_least text (Ok r) h g n k fault = read_or_refused text r n k h fault
 gave_least text (Err refusals.Memory) h g n k fault = tt
 gave_least text (Err (refusals.Fault m j)) h g n k fault = one_fault text m n j k g fault

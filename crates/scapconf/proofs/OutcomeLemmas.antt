@@ -39,7 +39,7 @@ use Rattle.scapconf.specs.Laws.{IsReadOrRefused}
 use Rattle.scapconf.proofs.StepLemmas.{stands_step, silent_step}
 use Rattle.scapconf.proofs.LineLemmas.{read_values, refused_by, named_fault, named_clean, text_fault, word_fault, silent_clean}
 use Rattle.scapconf.proofs.ParseLemmas.{drop_more, stands_more, clean_taken, refused_next, reads_all, none_clean}
-use Rattle.scapconf.proofs.LawLemmas.{not_both}
+use Rattle.scapconf.proofs.LawLemmas.{read_or_refused}
 
 -- What the words of a line say by themselves.
 
@@ -251,5 +251,5 @@ outcome : (text : List ℕ) (b : Bool) → nat_le (length text) 65536 ≡ b → 
 outcome text true e = take_lines text (lines text) 0 fresh (grind (arith, nat_tests)) refl (none_clean (lines text)) fresh_stands
 outcome text false e = inr (0, kinds.Long, inl (grind (arith, nat_tests), refl, refl))
 
-pub read_or_refused : (text : List ℕ) → IsReadOrRefused text
-read_or_refused text = record { one = outcome text (nat_le (length text) 65536) refl; apart = not_both text }
+pub meaning_or_fault : (text : List ℕ) → IsReadOrRefused text
+meaning_or_fault text = record { one = outcome text (nat_le (length text) 65536) refl; apart = read_or_refused text }

@@ -1,5 +1,5 @@
-use Rattle.scapconf.proofs.OutcomeLemmas.{read_or_refused}
+use Rattle.scapconf.proofs.OutcomeLemmas.{meaning_or_fault}
 use Rattle.scapconf.proofs.laws.texts_are_read_or_refused.Goals as goal
 
 pub returns : goal.returns
-returns c = read_or_refused
+returns c = meaning_or_fault
