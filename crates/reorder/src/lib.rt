@@ -14,6 +14,8 @@ mod search;
 mod settlement;
 mod start_run;
 mod store;
+#[cfg(test)]
+mod tests;
 
 pub use run::Run;
 pub use runs::Runs;
