@@ -1,5 +1,5 @@
 -- Homes that grant as often as they release come in whole.
-use Rattle.std.proofs.Common.{◌≡◌, ℕ, ◌+◌, refl, sym, ap, ◌∙◌, subst, arith}
+use Rattle.std.proofs.Common.{◌≡◌, ℕ, refl, sym, ap, ◌∙◌, subst, arith}
 use Rattle.prio_budget.specs.History.{total, is_grant, is_release}
 use Rattle.prio_budget.specs.Share.{Share, share_sum, half, IsWhole}
 use Rattle.prio_budget.specs.WordParts.{HomeParts, IsAllIn, first_home, home_left, home_right, gathered}

@@ -1,4 +1,4 @@
-use Rattle.std.proofs.Common.{◌≡◌, ◌≤◌}
+use Rattle.std.proofs.Common.{◌≤◌}
 use Rattle.prio_budget.specs.WordTests.{IsBalanced}
 use Rattle.prio_budget.proofs.word_tests.ask_and_release.Given as goal
 
