@@ -1,4 +1,4 @@
-use Rattle.std.proofs.Common.{◌≡◌, ◌≤◌, ◌<◌, ◌&&◌, not, ℕ, suc, zero, ◌+◌, ◌*◌, ◌/◌, ◌%◌, Bool, true, false, cond, List, [], ◌∷◌, ◌++◌, length, Option, Some, None, sym, ◌∙◌, ap, refl, arith, nat_eq, flat_map}
+use Rattle.std.proofs.Common.{◌≡◌, ◌≤◌, ◌<◌, ◌&&◌, not, ℕ, suc, zero, ◌+◌, ◌*◌, ◌/◌, ◌%◌, Bool, true, false, cond, List, [], ◌∷◌, ◌++◌, length, Option, Some, None, sym, ◌∙◌, ap, refl, arith, nat_eq, flat_map, slice_index}
 use Rattle.std.specs.Option.{option_map, option_and_then, option_or}
 use Rattle.std.specs.List.{list_all}
 use Rattle.std.specs.Char.{digit_char, digit_value}
@@ -11,7 +11,10 @@ use Rattle.streamkey.specs.declared.addr.Addr.{Addr}
 use Rattle.streamkey.specs.declared.addr.Addr.TheVariants.{V4, V6}
 use Rattle.capfilter.specs.Numbers.{numbers, with_first, parts}
 use Rattle.capfilter.specs.Addresses.{octet, group, of_octets, version_4, round_gap, of_groups, of_texts, group_bytes, version_6, address}
-use Rattle.capfilter.specs.Canonical.{dotted, hex_byte, grouped, address_text}
+use Rattle.hex.specs.Hex.{encode_with, lower_digits}
+use Rattle.textout.specs.Addresses.{dotted, grouped}
+use Rattle.textout.proofs.HexSteps.{digit_is_char}
+use Rattle.capfilter.specs.Canonical.{address_text}
 use Rattle.capfilter.specs.Fit.{AreBytes, IsFitAddress}
 use Rattle.capfilter.proofs.DigitLemmas.{lacks, parts-lacks, parts-at, all-append, digits_lack, number_gives, number-decimal, decimal_lacks, digit_back, decimal_digits}
 
@@ -45,13 +48,20 @@ module _ (a b c d : ℕ) (fa : a < 256) (fb : b < 256) (fc : c < 256) (fd : d < 
       ∙ ap (λ (o : Option ℕ). option_and_then of_octets (with_first a (with_first b (option_and_then (λ n. with_first n (numbers 1 octet (decimal d ∷ []))) o)))) (octet-decimal c fc)
       ∙ ap (λ (o : Option ℕ). option_and_then of_octets (with_first a (with_first b (with_first c (option_and_then (λ n. with_first n (numbers 0 octet [])) o))))) (octet-decimal d fd)
 
+-- a byte as two lower-case hexadecimal digits
+abbrev hex_digit : ℕ → ℕ
+hex_digit d = slice_index lower_digits d
+
+abbrev hex_byte : ℕ → List ℕ
+hex_byte b = hex_digit (b / 16) ∷ hex_digit (b % 16) ∷ []
+
 -- the digits of a byte and of a group
 hex_digits : (x : ℕ) → x < 256 → AllDigits 16 (hex_byte x)
 hex_digits x h =
     let high : x / 16 < 16 = omega arith in
     let low : x % 16 < 16 = omega arith in
-    let first : digit_value (digit_char (x / 16)) < 16 = omega (arith, digit_back (x / 16) high) in
-    let second : digit_value (digit_char (x % 16)) < 16 = omega (arith, digit_back (x % 16) low) in
+    let first : digit_value (hex_digit (x / 16)) < 16 = omega (arith, digit_back (x / 16) high) in
+    let second : digit_value (hex_digit (x % 16)) < 16 = omega (arith, digit_back (x % 16) low) in
     (first, (second, tt))
 
 -- the text of a group, and of some groups
@@ -138,19 +148,22 @@ no_gap_colon y ys e h =
     ap (λ (b : Bool). cond b (Some ([], ys)) (option_map (λ halves. (58 ∷ halves.0, halves.1)) (round_gap (y ∷ ys)))) e
     ∙ ap (option_map (λ (halves : List ℕ × List ℕ). (58 ∷ halves.0, halves.1))) h
 
-digit_no_colon : (d : ℕ) → d < 16 → nat_eq (digit_char d) 58 ≡ false
-digit_no_colon d h = grind (arith, nat_tests)
+char_no_colon : (d : ℕ) → d < 16 → nat_eq (digit_char d) 58 ≡ false
+char_no_colon d h = grind (arith, nat_tests)
+
+digit_no_colon : (d : ℕ) → d < 16 → nat_eq (hex_digit d) 58 ≡ false
+digit_no_colon d h = ap (λ (n : ℕ). nat_eq n 58) (digit_is_char d h) ∙ char_no_colon d h
 
 no_gap_group : (p : ℕ × ℕ) (xs : List ℕ) → p.0 < 256 → p.1 < 256 → round_gap xs ≡ None → round_gap (group_text p ++ xs) ≡ None
 no_gap_group p xs a b h =
-    no_gap_digit (digit_char (p.0 / 16)) (digit_char (p.0 % 16) ∷ digit_char (p.1 / 16) ∷ digit_char (p.1 % 16) ∷ xs) (digit_no_colon (p.0 / 16) (omega arith))
-    (no_gap_digit (digit_char (p.0 % 16)) (digit_char (p.1 / 16) ∷ digit_char (p.1 % 16) ∷ xs) (digit_no_colon (p.0 % 16) (omega arith))
-    (no_gap_digit (digit_char (p.1 / 16)) (digit_char (p.1 % 16) ∷ xs) (digit_no_colon (p.1 / 16) (omega arith))
-    (no_gap_digit (digit_char (p.1 % 16)) xs (digit_no_colon (p.1 % 16) (omega arith)) h)))
+    no_gap_digit (hex_digit (p.0 / 16)) (hex_digit (p.0 % 16) ∷ hex_digit (p.1 / 16) ∷ hex_digit (p.1 % 16) ∷ xs) (digit_no_colon (p.0 / 16) (omega arith))
+    (no_gap_digit (hex_digit (p.0 % 16)) (hex_digit (p.1 / 16) ∷ hex_digit (p.1 % 16) ∷ xs) (digit_no_colon (p.0 % 16) (omega arith))
+    (no_gap_digit (hex_digit (p.1 / 16)) (hex_digit (p.1 % 16) ∷ xs) (digit_no_colon (p.1 / 16) (omega arith))
+    (no_gap_digit (hex_digit (p.1 % 16)) xs (digit_no_colon (p.1 % 16) (omega arith)) h)))
 
 no_gap_before : (p : ℕ × ℕ) (ps : List (ℕ × ℕ)) → p.0 < 256 → round_gap (pairs_text (p ∷ ps)) ≡ None → round_gap (58 ∷ pairs_text (p ∷ ps)) ≡ None
-no_gap_before p [] a h = no_gap_colon (digit_char (p.0 / 16)) _ (digit_no_colon (p.0 / 16) (omega arith)) h
-no_gap_before p (q ∷ ps) a h = no_gap_colon (digit_char (p.0 / 16)) _ (digit_no_colon (p.0 / 16) (omega arith)) h
+no_gap_before p [] a h = no_gap_colon (hex_digit (p.0 / 16)) _ (digit_no_colon (p.0 / 16) (omega arith)) h
+no_gap_before p (q ∷ ps) a h = no_gap_colon (hex_digit (p.0 / 16)) _ (digit_no_colon (p.0 / 16) (omega arith)) h
 
 no_gap : (p : ℕ × ℕ) (ps : List (ℕ × ℕ)) → ArePairs (p ∷ ps) → round_gap (pairs_text (p ∷ ps)) ≡ None
 no_gap p [] h = ap round_gap (sym (append-nil (group_text p))) ∙ no_gap_group p [] h.0.0 h.0.1 refl
@@ -196,7 +209,7 @@ pairs_read p ps h eight =
 
 -- sixteen bytes in the two ways
 grouped_is : (a0 a1 a2 a3 a4 a5 a6 a7 a8 a9 a10 a11 a12 a13 a14 a15 : ℕ) → grouped (a0 ∷ a1 ∷ a2 ∷ a3 ∷ a4 ∷ a5 ∷ a6 ∷ a7 ∷ a8 ∷ a9 ∷ a10 ∷ a11 ∷ a12 ∷ a13 ∷ a14 ∷ a15 ∷ []) ≡ pairs_text ((a0, a1) ∷ (a2, a3) ∷ (a4, a5) ∷ (a6, a7) ∷ (a8, a9) ∷ (a10, a11) ∷ (a12, a13) ∷ (a14, a15) ∷ [])
-unfolding grouped
+unfolding grouped encode_with
 grouped_is a0 a1 a2 a3 a4 a5 a6 a7 a8 a9 a10 a11 a12 a13 a14 a15 =
     simp append_assoc
 

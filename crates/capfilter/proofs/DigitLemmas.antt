@@ -1,4 +1,4 @@
-use Rattle.std.proofs.Common.{◌≡◌, ◌≤◌, ◌<◌, ◌&&◌, not, ℕ, ◌^◌, Bool, true, false, List, [], ◌∷◌, ◌++◌, length, Some, ◌∙◌, ap, refl, arith, nat_eq}
+use Rattle.std.proofs.Common.{◌≡◌, ◌≤◌, ◌<◌, ◌&&◌, not, ℕ, ◌^◌, Bool, true, false, List, [], ◌∷◌, ◌++◌, length, Some, ◌∙◌, ap, refl, arith, nat_eq, slice_index}
 use Rattle.std.specs.List.{list_all, onto_first}
 use Rattle.std.specs.Char.{digit_char, digit_value, is_digit}
 use Rattle.std.specs.Str.Parse.{AllDigits, digits_value}
@@ -6,7 +6,10 @@ use Rattle.std.specs.Fmt.{decimal}
 use Rattle.std.proofs.lemmas.Fmt.{decimal_is_IsNumeral, length-decimal-le}
 use Rattle.std.proofs.lemmas.List.Splits.{slice_split-cons_yes, slice_split-cons_no}
 use Rattle.std.proofs.lemmas.Bool.Decides.{nat_tests}
-use Rattle.capfilter.specs.Numbers.{number, parts}
+use Rattle.hex.specs.Hex.{lower_digits}
+use Rattle.textout.specs.Numbers.{number}
+use Rattle.textout.proofs.HexSteps.{digit_is_char}
+use Rattle.capfilter.specs.Numbers.{parts}
 use Rattle.capfilter.specs.Tokens.{is_plain}
 
 -- no such byte is in a list
@@ -45,7 +48,7 @@ all-append p (x ∷ xs) ys h g =
     let both = and_parts (p x) (list_all p xs) h in
     ap (λ (b : Bool). b && list_all p (xs ++ ys)) both.0 ∙ all-append p xs ys both.1 g
 
-all_digits : (radix : ℕ) (p : ℕ → Bool) → ((c : ℕ) → digit_value c < radix → p c ≡ true) → (ds : List ℕ) → AllDigits radix ds → list_all p ds ≡ true
+pub all_digits : (radix : ℕ) (p : ℕ → Bool) → ((c : ℕ) → digit_value c < radix → p c ≡ true) → (ds : List ℕ) → AllDigits radix ds → list_all p ds ≡ true
 all_digits radix p each [] h = refl
 all_digits radix p each (c ∷ ds) h = ap (λ (b : Bool). b && list_all p ds) (each c h.0) ∙ all_digits radix p each ds h.1
 
@@ -98,8 +101,11 @@ pub decimal_lacks : (byte n : ℕ) → 16 ≤ digit_value byte → n < 2 ^ 64 �
 decimal_lacks byte n other small = digits_lack byte 10 (decimal n) (omega arith) other (decimal_is_IsNumeral n small).0.1
 
 -- hexadecimal digits
-pub digit_back : (d : ℕ) → d < 16 → digit_value (digit_char d) ≡ d
-digit_back d h = grind (arith, nat_tests)
+char_back : (d : ℕ) → d < 16 → digit_value (digit_char d) ≡ d
+char_back d h = grind (arith, nat_tests)
+
+pub digit_back : (d : ℕ) → d < 16 → digit_value (slice_index lower_digits d) ≡ d
+digit_back d h = ap digit_value (digit_is_char d h) ∙ char_back d h
 
 pub decimal_digits : (n : ℕ) → n < 256 → AllDigits 16 (decimal n)
 decimal_digits n h = AllDigits-more 10 16 (decimal n) (omega arith) (decimal_is_IsNumeral n (omega arith)).0.1

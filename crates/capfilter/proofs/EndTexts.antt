@@ -10,7 +10,7 @@ use Rattle.capfilter.specs.declared.end_test.EndTest.{EndTest}
 use Rattle.capfilter.specs.declared.end_test.EndTest.TheVariants.{Host, Net, Port}
 use Rattle.capfilter.specs.declared.end_test.Field.{Field}
 use Rattle.capfilter.specs.declared.end_test.Field.TheVariants as fields
-use Rattle.capfilter.specs.Numbers.{number}
+use Rattle.textout.specs.Numbers.{number}
 use Rattle.capfilter.specs.Ends.{width, has_leading_zero, bits, net_parts, end_test}
 use Rattle.capfilter.specs.Tokens.{is_plain}
 use Rattle.capfilter.specs.Canonical.{address_text}

@@ -12,7 +12,8 @@ use Rattle.capfilter.specs.declared.end_test.Field.TheVariants as fields
 use Rattle.capfilter.specs.declared.prim.Primitive.{Primitive}
 use Rattle.capfilter.specs.declared.prim.Primitive.TheVariants.{Tcp, Udp, Ip, Ip6, OfEnd}
 use Rattle.capfilter.specs.Expr.{Expr, Test, Not, And, Or}
-use Rattle.capfilter.specs.Numbers.{number, are_digits, numbers, with_first, parts}
+use Rattle.textout.specs.Numbers.{number, are_digits}
+use Rattle.capfilter.specs.Numbers.{numbers, with_first, parts}
 use Rattle.capfilter.specs.Addresses.{octet, group, of_octets, version_4, round_gap, groups, some_groups, of_groups, of_halves, of_texts, group_bytes, version_6, address}
 use Rattle.capfilter.specs.Ends.{width, has_leading_zero, bits, net_parts, end_test}
 use Rattle.capfilter.specs.Grammar.{Tokens, IsPrim, IsExpr, IsPrimTerm, IsNegation, IsBracketed, IsTerm, IsExprOf}

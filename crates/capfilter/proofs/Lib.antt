@@ -12,6 +12,7 @@ pub mod ParserLemmas
 pub mod ParseLemmas
 pub mod DigitLemmas
 pub mod AddressTexts
+pub mod AsciiLemmas
 pub mod EndTexts
 pub mod FitLemmas
 pub mod CanonicalTokens

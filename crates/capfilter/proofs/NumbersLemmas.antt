@@ -13,28 +13,8 @@ use Rattle.std.proofs.lemmas.Str.Parse.{digits_value-take-le}
 use Rattle.std.proofs.lemmas.Bool.Decides.{nat_tests}
 use Rattle.std.proofs.lemmas.Grind.{common_steps}
 use Rattle.std.specs.List.{onto_first}
-use Rattle.capfilter.specs.Numbers.{number, parts}
+use Rattle.capfilter.specs.Numbers.{parts}
 use Rattle.capfilter.specs.Ends.{net_parts}
-
-past : (radix most limit : ℕ) (ds : List ℕ) → limit < digits_value radix ds → number radix most limit ds ≡ None
-past radix most limit ds k = grind (arith, nat_tests)
-
--- a front that writes too much
-pub number_past : (radix most limit : ℕ) (ds : List ℕ) (i : ℕ) → 1 ≤ radix → limit < digits_value radix (take i ds) → number radix most limit ds ≡ None
-number_past radix most limit ds i low h =
-    past radix most limit ds (omega (arith, digits_value-take-le radix ds i low))
-
--- a digit more
-pub value_more : (value radix d : ℕ) (ds : List ℕ) (i : ℕ) → i < length ds → value ≡ digits_value radix (take i ds) → d ≡ digit_value (get_or ds i 0)
-    → value * radix + d ≡ digits_value radix (take (i + 1) ds)
-value_more value radix d ds i within v e =
-    ap (λ (n : ℕ). n * radix + d) v ∙ ap (λ (n : ℕ). digits_value radix (take i ds) * radix + n) e ∙ sym (digits_value_more radix ds i within)
-
-pub digits_more : (radix d : ℕ) (ds : List ℕ) (i : ℕ) → i < length ds → list_all (λ c. is_digit c radix) (take i ds) ≡ true → digit_value (get_or ds i 0) < radix
-    → list_all (λ c. is_digit c radix) (take (i + 1) ds) ≡ true
-digits_more radix d ds i within h below =
-    let this : is_digit (get_or ds i 0) radix ≡ true = grind (arith, nat_tests) in
-    list_all_more (λ c. is_digit c radix) ds i 0 within ∙ (ap (λ (b : Bool). b && is_digit (get_or ds i 0) radix) h ∙ this)
 
 module _ {X : Type 0} (p : X → Bool) where
   whole : (xs : List X) → (b : Bool) → ltb (position_or_len p xs) (length xs) ≡ b → cond b (Some (position_or_len p xs)) None ≡ None → slice_split p xs ≡ xs ∷ []

@@ -4,7 +4,7 @@ use Rattle.std.proofs.lemmas.Grind.{flat_map-append}
 use mathlib.Core.List.{append_assoc}
 use Rattle.capfilter.specs.declared.node.Node.{Node}
 use Rattle.capfilter.specs.declared.node.Node.TheVariants as nodes
-use Rattle.capfilter.specs.declared.shown.Task.{Task}
+use Rattle.capfilter.specs.declared.printer.Task.{Task}
 use Rattle.capfilter.specs.Expr.{Expr}
 use Rattle.capfilter.specs.Canonical.{canonical, prim_text}
 use Rattle.capfilter.specs.Nodes.{tree_at, tree_of, trees, IsBelow, AreBelow}

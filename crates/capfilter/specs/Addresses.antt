@@ -4,7 +4,8 @@ use Rattle.streamkey.specs.declared.addr.Addr.{Addr}
 use Rattle.streamkey.specs.declared.addr.Addr.TheVariants.{V4, V6}
 use Rattle.capfilter.specs.declared.address.Style.{Style}
 use Rattle.capfilter.specs.declared.address.Style.TheVariants.{Dotted, Colons}
-use Rattle.capfilter.specs.Numbers.{number, numbers, parts}
+use Rattle.textout.specs.Numbers.{number}
+use Rattle.capfilter.specs.Numbers.{numbers, parts}
 
 -- Addresses as texts: docs/FORMATS.md, "Filters".
 

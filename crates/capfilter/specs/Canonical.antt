@@ -1,8 +1,8 @@
-use Rattle.std.specs.Prelude.{ℕ, zero, suc, ◌+◌, ◌*◌, ◌/◌, ◌%◌, List, [], ◌∷◌, ◌++◌, codes, slice_index}
+use Rattle.std.specs.Prelude.{ℕ, List, [], ◌++◌, codes}
 use Rattle.std.specs.Fmt.{decimal}
-use Rattle.std.specs.Char.{digit_char}
 use Rattle.streamkey.specs.declared.addr.Addr.{Addr}
 use Rattle.streamkey.specs.declared.addr.Addr.TheVariants.{V4, V6}
+use Rattle.textout.specs.Addresses.{dotted, grouped}
 use Rattle.capfilter.specs.declared.end_test.EndTest.{EndTest}
 use Rattle.capfilter.specs.declared.end_test.EndTest.TheVariants.{Host, Net, Port}
 use Rattle.capfilter.specs.declared.prim.Side.{Side}
@@ -12,27 +12,6 @@ use Rattle.capfilter.specs.declared.prim.Primitive.TheVariants.{Tcp, Udp, Ip, Ip
 use Rattle.capfilter.specs.Expr.{Expr, Test, Not, And, Or}
 
 -- The one text that an expression is printed as: docs/FORMATS.md, "Filters".
-
--- four decimal numbers joined by dots
-unfoldable pub dotted : List ℕ → List ℕ
-dotted a = decimal (slice_index a 0) ++ codes "." ++ decimal (slice_index a 1) ++ codes "." ++ decimal (slice_index a 2) ++ codes "." ++ decimal (slice_index a 3)
-
--- a byte as two lower-case hexadecimal digits
-abbrev pub hex_byte : ℕ → List ℕ
-hex_byte b = digit_char (b / 16) ∷ digit_char (b % 16) ∷ []
-
--- two bytes of an address as four digits
-abbrev pub group_at : List ℕ → ℕ → List ℕ
-group_at a i = hex_byte (slice_index a (2 * i)) ++ hex_byte (slice_index a (2 * i + 1))
-
--- the first groups, each with a colon behind it
-abbrev pub colon_groups : List ℕ → ℕ → List ℕ
-colon_groups a zero = []
-colon_groups a (suc n) = colon_groups a n ++ (group_at a n ++ codes ":")
-
--- eight groups joined by colons
-unfoldable pub grouped : List ℕ → List ℕ
-grouped a = colon_groups a 7 ++ group_at a 7
 
 abbrev pub address_text : Addr → List ℕ
 address_text (V4 bytes) = dotted bytes

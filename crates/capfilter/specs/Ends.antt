@@ -6,7 +6,8 @@ use Rattle.capfilter.specs.declared.end_test.EndTest.{EndTest}
 use Rattle.capfilter.specs.declared.end_test.EndTest.TheVariants as tests
 use Rattle.capfilter.specs.declared.end_test.Field.{Field}
 use Rattle.capfilter.specs.declared.end_test.Field.TheVariants as fields
-use Rattle.capfilter.specs.Numbers.{number, parts}
+use Rattle.textout.specs.Numbers.{number}
+use Rattle.capfilter.specs.Numbers.{parts}
 use Rattle.capfilter.specs.Addresses.{address}
 
 -- Hosts, nets and ports as texts: docs/FORMATS.md, "Filters".

@@ -1,4 +1,5 @@
 use Rattle.std.specs.Prelude.{◌≡◌, ℕ, ◌<◌, ◌≤◌, ◌⊎◌, List, [], ◌∷◌, ◌++◌, length, map, Some}
+use Rattle.capfilter.specs.declared.limits.TheConstants.{MOST_LEVELS, MOST_TOKENS}
 use Rattle.capfilter.specs.declared.word.Word.{Word}
 use Rattle.capfilter.specs.declared.end_test.Field.{Field}
 use Rattle.capfilter.specs.declared.end_test.EndTest.{EndTest}
@@ -18,10 +19,10 @@ use Rattle.capfilter.specs.Grammar.{Tokens, IsExprOf, Begins, BeginsAny}
 abbrev pub bytes_of : List Token → Tokens
 bytes_of = map (λ t. t.bytes)
 
--- a text is a filter where its tokens, 512 or fewer, are an expression of at most 64 levels
+-- a text is a filter where its tokens, no more than the most, are an expression of at most the most levels
 pub record Reads (text : List ℕ) (e : Expr) : Type 0 where
-  pub few : length (tokens 0 text) ≤ 512
-  pub is : IsExprOf 64 (bytes_of (tokens 0 text)) e
+  pub few : length (tokens 0 text) ≤ MOST_TOKENS
+  pub is : IsExprOf MOST_LEVELS (bytes_of (tokens 0 text)) e
 
 abbrev pub IsWord : List ℕ → Type 0
 IsWord token = (w : Word) × (token ≡ spelling w)
@@ -34,17 +35,17 @@ IsEndTest token = (field : Field) × (t : EndTest) × (end_test field token ≡ 
 abbrev pub ExpectsEndTest : Tokens → Type 0
 ExpectsEndTest before = (token : List ℕ) × IsEndTest token × BeginsAny (before ++ token ∷ [])
 
--- some expression has the token there, and none of at most 64 levels
+-- some expression has the token there, and none of at most the most levels
 abbrev pub OpensTooMany : Tokens → List ℕ → Type 0
-OpensTooMany before token = BeginsAny (before ++ token ∷ []) × (¬ Begins 64 (before ++ token ∷ []))
+OpensTooMany before token = BeginsAny (before ++ token ∷ []) × (¬ Begins MOST_LEVELS (before ++ token ∷ []))
 
 -- of which kind the fault of a token is, behind tokens that some filter begins with
 abbrev pub IsKind : Tokens → List ℕ → FilterKind → Type 0
-IsKind before token kinds.Long = 512 ≤ length before
-IsKind before token kinds.Deep = (length before < 512) × OpensTooMany before token
-IsKind before token kinds.Value = (length before < 512) × (¬ BeginsAny (before ++ token ∷ [])) × ExpectsEndTest before
-IsKind before token kinds.Unexpected = (length before < 512) × (¬ BeginsAny (before ++ token ∷ [])) × (¬ ExpectsEndTest before) × (IsWord token ⊎ IsEndTest token)
-IsKind before token kinds.Token = (length before < 512) × (¬ BeginsAny (before ++ token ∷ [])) × (¬ ExpectsEndTest before) × (¬ (IsWord token ⊎ IsEndTest token))
+IsKind before token kinds.Long = MOST_TOKENS ≤ length before
+IsKind before token kinds.Deep = (length before < MOST_TOKENS) × OpensTooMany before token
+IsKind before token kinds.Value = (length before < MOST_TOKENS) × (¬ BeginsAny (before ++ token ∷ [])) × ExpectsEndTest before
+IsKind before token kinds.Unexpected = (length before < MOST_TOKENS) × (¬ BeginsAny (before ++ token ∷ [])) × (¬ ExpectsEndTest before) × (IsWord token ⊎ IsEndTest token)
+IsKind before token kinds.Token = (length before < MOST_TOKENS) × (¬ BeginsAny (before ++ token ∷ [])) × (¬ ExpectsEndTest before) × (¬ (IsWord token ⊎ IsEndTest token))
 IsKind before token kinds.End = ⊥
 
 -- the fault of a token: what stands before it is without one
@@ -54,17 +55,17 @@ pub record IsFaultAt (all : List Token) (fault : FilterFault) : Type 0 where
   pub behind : List Token
   pub split : all ≡ before ++ token ∷ behind
   pub place : fault.at ≡ token.at
-  pub few : length before ≤ 512
-  pub begins : Begins 64 (bytes_of before)
+  pub few : length before ≤ MOST_TOKENS
+  pub begins : Begins MOST_LEVELS (bytes_of before)
   pub kind : IsKind (bytes_of before) token.bytes fault.kind
 
 -- the text ends too early
 pub record EndsEarly (text : List ℕ) (fault : FilterFault) : Type 0 where
   pub place : fault.at ≡ length text
   pub kind : fault.kind ≡ kinds.End
-  pub few : length (tokens 0 text) ≤ 512
-  pub begins : Begins 64 (bytes_of (tokens 0 text))
-  pub unfinished : (e : Expr) → ¬ IsExprOf 64 (bytes_of (tokens 0 text)) e
+  pub few : length (tokens 0 text) ≤ MOST_TOKENS
+  pub begins : Begins MOST_LEVELS (bytes_of (tokens 0 text))
+  pub unfinished : (e : Expr) → ¬ IsExprOf MOST_LEVELS (bytes_of (tokens 0 text)) e
 
 -- the fault of a text
 abbrev pub IsFault : List ℕ → FilterFault → Type 0

@@ -4,6 +4,7 @@ use Rattle.capfilter.specs.Expr.{Expr, Test, Not, And, Or}
 use Rattle.capfilter.specs.Tokens.{tokens}
 use Rattle.capfilter.specs.Truth.{agree}
 use Rattle.capfilter.specs.Fit.{AreBytes}
+use Rattle.capfilter.specs.declared.limits.TheConstants.{MOST_LEVELS, MOST_TOKENS}
 use Rattle.capfilter.specs.Canonical.{canonical}
 use Rattle.capfilter.specs.Faults.{Reads, IsFault}
 
@@ -18,8 +19,8 @@ depth (Or left right) = 1 + max (depth left) (depth right)
 
 -- the canonical text is within the limits
 pub record IsWithinLimits (e : Expr) : Type 0 where
-  pub few : length (tokens 0 (canonical e)) ≤ 512
-  pub shallow : depth e ≤ 64
+  pub few : length (tokens 0 (canonical e)) ≤ MOST_TOKENS
+  pub shallow : depth e ≤ MOST_LEVELS
 
 abbrev pub HasOneTree : List ℕ → Type 0
 HasOneTree text = (e f : Expr) → Reads text e → Reads text f → e ≡ f

@@ -5,6 +5,7 @@ use Rattle.capfilter.specs.Truth.{prim_holds}
 use Rattle.capfilter.specs.Canonical.{canonical}
 use Rattle.capfilter.specs.Fit.{IsFit}
 use Rattle.capfilter.specs.declared.prim.Primitive.TheVariants.{Tcp}
+use Rattle.capfilter.specs.declared.limits.TheConstants.{MOST_TOKENS}
 use Rattle.capfilter.specs.declared.node.Node.{Node}
 use Rattle.capfilter.specs.declared.node.Node.TheVariants as nodes
 use Rattle.capfilter.specs.Expr.{Expr, Test, Not, And, Or}
@@ -50,10 +51,10 @@ node_says values (nodes.Not i) key toward = not (slice_index_or values i false)
 node_says values (nodes.And i j) key toward = slice_index_or values i false && slice_index_or values j false
 node_says values (nodes.Or i j) key toward = slice_index_or values i false || slice_index_or values j false
 
--- the nodes of a filter, of which there are at most 512, and its text
+-- the nodes of a filter, of which there are at most as many as tokens, and its text
 pub record IsFilter (ns : List Node) (text : List ℕ) : Type 0 where
   pub some : 0 < length ns
-  pub few : length ns ≤ 512
+  pub few : length ns ≤ MOST_TOKENS
   pub below : AreBelow ns
   pub shown : text ≡ canonical (root ns)
   pub fit : IsFit (root ns)

@@ -1,17 +1,6 @@
-use Rattle.std.specs.Prelude.{ℕ, suc, zero, Bool, ◌&&◌, List, [], ◌∷◌, length, Option, Some, None, nat_lt, nat_le, nat_eq, if◌then◌else◌}
+use Rattle.std.specs.Prelude.{ℕ, suc, zero, List, [], ◌∷◌, Option, Some, None, nat_eq}
 use Rattle.std.specs.Option.{option_map, option_and_then}
-use Rattle.std.specs.List.{list_all, slice_split}
-use Rattle.std.specs.Char.{is_digit}
-use Rattle.std.specs.Str.Parse.{digits_value}
-
--- one to `most` digits of a radix, and nothing else
-abbrev pub are_digits : (radix most : ℕ) → List ℕ → Bool
-are_digits radix most ds = nat_lt 0 (length ds) && nat_le (length ds) most && list_all (λ c. is_digit c radix) ds
-
--- the number that one to `most` digits of a radix write, where it is at most the limit; zeros may lead
-abbrev pub number : (radix most limit : ℕ) → List ℕ → Option ℕ
-number radix most limit ds =
-    if are_digits radix most ds && nat_le (digits_value radix ds) limit then Some (digits_value radix ds) else None
+use Rattle.std.specs.List.{slice_split}
 
 -- a list with a number more at its front
 abbrev pub with_first : ℕ → Option (List ℕ) → Option (List ℕ)

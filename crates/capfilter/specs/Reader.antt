@@ -1,5 +1,6 @@
 use Rattle.std.specs.Prelude.{◌≡◌, ℕ, ◌+◌, Bool, ◌||◌, List, [], ◌∷◌, length, Option, Some, None, is_some, nat_le, if◌then◌else◌}
 use Rattle.std.specs.Option.{option_map, option_and_then}
+use Rattle.capfilter.specs.declared.limits.TheConstants.{MOST_LEVELS, MOST_TOKENS}
 use Rattle.capfilter.specs.declared.word.Word.{Word}
 use Rattle.capfilter.specs.declared.word.Word.TheVariants as words
 use Rattle.capfilter.specs.declared.end_test.Field.{Field}
@@ -156,13 +157,13 @@ at_end end (frame ∷ frames) (Operator e) = Refused end kinds.End
 -- behind a step: the kind where there is none
 abbrev pub behind_step : (State → Outcome) → ℕ → FilterKind → Option State → Outcome
 behind_step more at kind None = Refused at kind
-behind_step more at kind (Some s) = if nat_le (levels s.frames) 64 then more s else Refused at kinds.Deep
+behind_step more at kind (Some s) = if nat_le (levels s.frames) MOST_LEVELS then more s else Refused at kinds.Deep
 
 -- reads the tokens, of which that many were read before
 abbrev pub read : ℕ → ℕ → State → List Token → Outcome
 read end count s [] = at_end end s.frames s.next
 read end count s (t ∷ ts) =
-    if nat_le 512 count then Refused t.at kinds.Long
+    if nat_le MOST_TOKENS count then Refused t.at kinds.Long
     else behind_step (λ s. read end (count + 1) s ts) t.at (fault_kind s.next t.bytes) (step s.frames s.next t.bytes)
 
 -- what reading a text ends with

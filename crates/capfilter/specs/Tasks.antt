@@ -1,6 +1,6 @@
 use Rattle.std.specs.Prelude.{ℕ, ◌≡◌, ◌+◌, ◌<◌, List, [], ◌∷◌, ◌++◌, codes, flat_map, reverse}
-use Rattle.capfilter.specs.declared.shown.Task.{Task}
-use Rattle.capfilter.specs.declared.shown.Task.TheVariants.{Show, AndWord, OrWord, Close}
+use Rattle.capfilter.specs.declared.printer.Task.{Task}
+use Rattle.capfilter.specs.declared.printer.Task.TheVariants.{Show, AndWord, OrWord, Close}
 use Rattle.capfilter.specs.Expr.{Expr, Test, Not, And, Or}
 use Rattle.capfilter.specs.declared.node.Node.{Node}
 use Rattle.capfilter.specs.declared.node.Node.TheVariants as nodes

@@ -5,8 +5,9 @@ ghost use Rattle.streamkey.specs.declared.addr.Addr.TheVariants.{V4, V6};
 ghost use Rattle.capfilter.specs.Numbers.{numbers, parts};
 ghost use Rattle.capfilter.specs.Addresses.{separator, number_in, most_in, version_4, version_6, address, round_gap, some_groups, group_bytes, of_texts, of_halves, of_groups, groups};
 
-use crate::number::{cut, number_of};
+use crate::parts::cut;
 use streamkey::Addr;
+use textout::read_number;
 
 /// How the numbers of an address are written: four octets with dots, or groups of hexadecimal digits with colons.
 #[derive(Clone, Copy)]
@@ -29,8 +30,8 @@ fn number_at(style: Style, text: &[u8]) -> Option<u16>
     ensures within { IfSome result (λ n. n ≤ most_in style) }
 {
     let number = match style {
-        Style::Dotted => number_of(text, 10, 3, 255),
-        Style::Colons => number_of(text, 16, 4, 65535),
+        Style::Dotted => read_number(text, 10, 3, 255),
+        Style::Colons => read_number(text, 16, 4, 65_535),
     };
     match number {
         None => None,

@@ -4,8 +4,9 @@ ghost use Rattle.capfilter.specs.Ends.{width, bits, net_parts, end_test, is_end_
 ghost use Rattle.capfilter.specs.Numbers.{parts};
 
 use crate::address::address_of;
-use crate::number::{cut, number_of};
+use crate::parts::cut;
 use streamkey::Addr;
+use textout::read_number;
 
 /// What is asked of one end of a packet: its address, the first bits of its address, or its port.
 #[derive(Clone, Copy, Debug)]
@@ -23,7 +24,7 @@ pub(crate) enum Field {
     Port,
 }
 
-fn width_of(address: Addr) -> u32
+fn width_of(address: Addr) -> u64
     ensures { result ≡ width address }
 {
     match address {
@@ -41,7 +42,7 @@ fn leads_with_zero(digits: &[u8]) -> bool
     }
 }
 
-fn bits_of(text: &[u8], most: u32) -> Option<u32>
+fn bits_of(text: &[u8], most: u64) -> Option<u64>
     requires { most ≤ 128 }
     ensures bits { result ≡ bits most text.now }
     ensures within { IfSome result (λ n. n ≤ most) }
@@ -49,7 +50,7 @@ fn bits_of(text: &[u8], most: u32) -> Option<u32>
     if leads_with_zero(text) {
         return None;
     }
-    number_of(text, 10, 3, most)
+    read_number(text, 10, 3, most)
 }
 
 fn net_between(front: &[u8], back: &[u8]) -> Option<EndTest>
@@ -79,7 +80,7 @@ pub(crate) fn end_test_of(field: Field, text: &[u8]) -> Option<EndTest>
     match field {
         Field::Host => Some(EndTest::Host(address_of(text)?)),
         Field::Net => net_of(text),
-        Field::Port => Some(EndTest::Port(number_of(text, 10, 5, 65535)? as u16)),
+        Field::Port => Some(EndTest::Port(read_number(text, 10, 5, 65_535)? as u16)),
     }
 }
 

@@ -1,4 +1,5 @@
-ghost use Rattle.std.specs.Prelude.{◌≡◌, ◌≤◌, ◌<◌, length, IfOk, IfErr, IsErrAnd, MatchResult, Some};
+ghost use Rattle.std.specs.Prelude.{◌≡◌, ◌≤◌, ◌<◌, length, IfOk, IfErr, IsErrAnd, MatchResult, Some, string_bytes};
+ghost use Rattle.std.specs.Str.{IsUtf8};
 ghost use Rattle.capfilter.specs.declared.filter_error.FilterFault.{FilterFault};
 ghost use Rattle.capfilter.specs.Expr.{Expr};
 ghost use Rattle.capfilter.specs.Truth.{truth};
@@ -10,9 +11,10 @@ ghost use Rattle.capfilter.specs.Reader.{outcome, Parsed, IsRefusal};
 
 use crate::Memory;
 use crate::filter_error::FilterError;
+use crate::limits::MOST_TOKENS;
 use crate::node::{Node, last_holds};
-use crate::reading::read_text;
-use crate::shown::shown_of;
+use crate::printer::shown_of;
+use crate::token_reader::read_text;
 use std::alloc::Global;
 use std::fmt;
 use std::marker::Model;
@@ -41,6 +43,16 @@ impl Model for Filter {
     ghost invariant = { λ f. IsFilter f.nodes.items (string_bytes f.text) };
 }
 
+fn text_of(bytes: Vec<u8>) -> String
+    requires { IsUtf8 bytes.items }
+    ensures { string_bytes result ≡ bytes.items }
+{
+    match String::from_utf8(bytes) {
+        Ok(text) => text,
+        Err(_) => unreachable!(),
+    }
+}
+
 impl Filter {
     /// The filter that a text is (docs/FORMATS.md, "Filters"), or its first fault.
     pub fn parse(alloc: Global, text: &str) -> Result<Filter, FilterError>
@@ -64,12 +76,12 @@ impl Filter {
     /// The filter of the last node.
     pub(crate) fn of_nodes(alloc: Global, nodes: Vec<Node>) -> Result<Filter, Memory>
         requires some { 0 < length nodes.items }
-        requires few { length nodes.items ≤ 512 }
+        requires few { length nodes.items ≤ MOST_TOKENS }
         requires below { AreBelow nodes.items }
         requires fit { IsFit (root nodes.items) }
         ensures { IfOk result (λ filter. filter ≡ root nodes.items) }
     {
-        let text = shown_of(alloc, nodes.as_slice())?;
+        let text = text_of(shown_of(alloc, nodes.as_slice())?);
         Ok(Filter { nodes, text })
     }
 

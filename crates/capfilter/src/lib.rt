@@ -1,6 +1,6 @@
 //! Filters of packets: a small language of addresses, nets, ports and protocols with `and`, `or` and `not`.
 //! What is parsed is in the grammar with that tree, all else is refused with its first fault, and `matches` is the truth.
-//! Stands on streamkey (keys of packets) and itoa.
+//! Stands on streamkey (keys of packets) and textout (texts and numbers).
 #![tactic(auto)]
 
 mod address;
@@ -8,20 +8,21 @@ mod end_test;
 mod filter;
 mod filter_error;
 pub mod laws;
-mod memory;
+mod limits;
 mod node;
-mod number;
 mod parser;
+mod parts;
 mod prim;
-mod reading;
+mod printer;
 pub mod rows;
-mod shown;
 #[cfg(test)]
 mod tests;
 mod text;
 mod token;
+mod token_reader;
 mod word;
 
 pub use filter::Filter;
 pub use filter_error::{FilterError, FilterFault, FilterKind};
-pub use memory::Memory;
+pub use limits::{MOST_LEVELS, MOST_TOKENS};
+pub use textout::Memory;

@@ -3,6 +3,7 @@ ghost use Rattle.std.specs.Prelude.{◌≡◌, ◌≤◌, ◌<◌, ◌-◌, leng
 ghost use Rattle.capfilter.specs.Truth.{truth};
 ghost use Rattle.capfilter.specs.Nodes.{AreBelow, IsBelow, root, node_says};
 
+use crate::limits::MOST_TOKENS;
 use crate::prim::Primitive;
 use streamkey::{Key, Toward};
 
@@ -16,8 +17,8 @@ pub(crate) enum Node {
 }
 
 /// What a node says where the nodes before it say these values.
-fn value_of(node: Node, values: &[bool; 512], at: usize, key: &Key, toward: Toward) -> bool
-    requires within { at ≤ 512 }
+fn value_of(node: Node, values: &[bool; MOST_TOKENS], at: usize, key: &Key, toward: Toward) -> bool
+    requires within { at ≤ MOST_TOKENS }
     requires below { IsBelow at node }
     ensures { result ≡ node_says values.now node key.now toward }
 {
@@ -29,14 +30,14 @@ fn value_of(node: Node, values: &[bool; 512], at: usize, key: &Key, toward: Towa
     }
 }
 
-/// Whether the last of the nodes holds, of which there are at most 512. Each node is looked at once.
+/// Whether the last of the nodes holds, of which there are at most as many as tokens. Each node is looked at once.
 pub(crate) fn last_holds(nodes: &[Node], key: &Key, toward: Toward) -> bool
     requires some { 0 < length nodes.now }
-    requires few { length nodes.now ≤ 512 }
+    requires few { length nodes.now ≤ MOST_TOKENS }
     requires below { AreBelow nodes.now }
     ensures { result ≡ truth (root nodes.now) key.now toward }
 {
-    let mut values = [false; 512];
+    let mut values = [false; MOST_TOKENS];
     for (i, node) in nodes.iter().enumerate() {
         values[i] = value_of(*node, &values, i, key, toward);
     }

@@ -10,6 +10,14 @@ ghost use Rattle.capfilter.specs.Rows.{dns_text, dns, tcp_to, fault, documentati
 ghost use Rattle.capfilter.specs.Tokens.{tokens};
 ghost use Rattle.capfilter.specs.Truth.{agree, truth};
 
+use crate::{MOST_LEVELS, MOST_TOKENS};
+
+/// The most tokens and the most levels.
+pub fn limits_are_the_stated_ones()
+    ensures tokens { MOST_TOKENS ≡ 512 }
+    ensures levels { MOST_LEVELS ≡ 64 }
+{}
+
 /// Brackets are tokens wherever they stand.
 pub fn tokens_stand_apart()
     ensures { tokens 0 (codes "a (\tbc)d")

@@ -1,67 +1,54 @@
-use Rattle.std.proofs.Common.{◌≡◌, ◌≤◌, ◌<◌, ◌⊎◌, ◌&&◌, ℕ, ◌+◌, ◌*◌, ◌^◌, Bool, true, false, List, length, take, get_or, Some, None, sym, ◌∙◌, ap, arith, nat_eq, inl, inr}
+-- A number in a range is one that is not above the greatest, where it is not below the least.
+use Rattle.std.proofs.Common.{◌≡◌, ◌≤◌, ◌<◌, ◌&&◌, ℕ, Bool, true, false, cond, List, Option, Some, None, sym, ◌∙◌, arith, refl, nat_eq, nat_le}
 use Rattle.std.specs.Str.Parse.{digits_value}
-use Rattle.std.specs.Char.{digit_value, is_digit}
-use Rattle.std.specs.List.{list_all}
-use Rattle.std.proofs.lemmas.List.Folds.{list_all_more, list_all_at}
-use Rattle.std.proofs.lemmas.Int.Digits.{digits_value_more}
-use Rattle.std.proofs.lemmas.Str.Parse.{digits_value-take-le}
 use Rattle.std.proofs.lemmas.Bool.Decides.{nat_tests}
+use Rattle.textout.specs.Numbers.{are_digits}
+use Rattle.textout.specs.Numbers as texts
 use Rattle.scapconf.specs.Numbers.{number}
 
--- a digit more
-pub value_more : (value : ℕ) (ds : List ℕ) (i : ℕ) → i < length ds → value ≡ digits_value 10 (take i ds)
-    → value * 10 + digit_value (get_or ds i 0) ≡ digits_value 10 (take (i + 1) ds)
-value_more value ds i within v = ap (λ (n : ℕ). n * 10 + digit_value (get_or ds i 0)) v ∙ sym (digits_value_more 10 ds i within)
+none_by : (digits low high : Bool) (n : ℕ) → cond (digits && high) (Some n) None ≡ None → cond (digits && (low && high)) (Some n) None ≡ None
+none_by true true high n h = h
+none_by true false high n h = refl
+none_by false low high n h = refl
 
-pub digits_more : (ds : List ℕ) (i : ℕ) → i < length ds → list_all (λ c. is_digit c 10) (take i ds) ≡ true → is_digit (get_or ds i 0) 10 ≡ true
-    → list_all (λ c. is_digit c 10) (take (i + 1) ds) ≡ true
-digits_more ds i within h this =
-    list_all_more (λ c. is_digit c 10) ds i 0 within ∙ (ap (λ (b : Bool). b && is_digit (get_or ds i 0) 10) h ∙ this)
+some_by : (digits low high : Bool) (n v : ℕ) → cond (digits && high) (Some n) None ≡ Some v → low ≡ true → cond (digits && (low && high)) (Some n) None ≡ Some v
+some_by true true high n v h e = h
+some_by true false high n v h e = absurd (cc)
+some_by false low high n v h e = absurd (cc)
 
--- a byte that is no digit, or a front that writes too much
-pub no_value : (value : ℕ) (ds : List ℕ) (i : ℕ) → i < length ds → value ≡ digits_value 10 (take i ds)
-    → (is_digit (get_or ds i 0) 10 ≡ false) ⊎ (2 ^ 64 ≤ value * 10 + digit_value (get_or ds i 0))
-    → (list_all (λ c. is_digit c 10) ds ≡ false) ⊎ (2 ^ 64 ≤ digits_value 10 ds)
-no_value value ds i within v h =
-    elim h [
-      | inl e ↦ inl (list_all_at (λ c. is_digit c 10) ds i 0 within e)
-      | inr much ↦ let more = value_more value ds i within v in inr (omega (arith, more, digits_value-take-le 10 ds (i + 1) (omega arith)))
-    ]
+low_by : (digits low high : Bool) (n : ℕ) → low ≡ false → cond (digits && (low && high)) (Some n) None ≡ None
+low_by true true high n e = absurd (cc)
+low_by true false high n e = refl
+low_by false low high n e = refl
 
-none_for : (most least greatest : ℕ) (ds : List ℕ) → (list_all (λ c. is_digit c 10) ds ≡ false) → number most least greatest ds ≡ None
-unfolding number
-none_for most least greatest ds h = grind (arith, nat_tests)
+value_by : (digits high : Bool) (n v : ℕ) → cond (digits && high) (Some n) None ≡ Some v → n ≡ v
+value_by true true n v h = cc
+value_by true false n v h = absurd (cc)
+value_by false high n v h = absurd (cc)
 
-none_past : (most least greatest : ℕ) (ds : List ℕ) → greatest < digits_value 10 ds → number most least greatest ds ≡ None
-unfolding number
-none_past most least greatest ds h = grind (arith, nat_tests)
+is_at_least : (least n : ℕ) → least ≤ n → nat_le least n ≡ true
+is_at_least least n h = grind (arith, nat_tests)
 
-pub number_none : (most least greatest : ℕ) (ds : List ℕ) → greatest < 2 ^ 64 → (list_all (λ c. is_digit c 10) ds ≡ false) ⊎ (2 ^ 64 ≤ digits_value 10 ds) → number most least greatest ds ≡ None
-number_none most least greatest ds fits h = elim h [ inl e ↦ none_for most least greatest ds e | inr much ↦ none_past most least greatest ds (omega arith) ]
+is_below : (least n : ℕ) → n < least → nat_le least n ≡ false
+is_below least n h = grind (arith, nat_tests)
 
-pub number_empty : (most least greatest : ℕ) (ds : List ℕ) → length ds ≡ 0 → number most least greatest ds ≡ None
-unfolding number
-number_empty most least greatest ds h = grind (arith, nat_tests)
+module _ (most least greatest : ℕ) (ds : List ℕ) where
+  pub number_none : texts.number 10 most greatest ds ≡ None → number most least greatest ds ≡ None
+  unfolding number
+  number_none = none_by (are_digits 10 most ds) (nat_le least (digits_value 10 ds)) (nat_le (digits_value 10 ds) greatest) (digits_value 10 ds)
 
-pub number_long : (most least greatest : ℕ) (ds : List ℕ) → most < length ds → number most least greatest ds ≡ None
-unfolding number
-number_long most least greatest ds h = grind (arith, nat_tests)
+  pub number_below : (v : ℕ) → texts.number 10 most greatest ds ≡ Some v → v < least → number most least greatest ds ≡ None
+  unfolding number
+  number_below v h low =
+      let same = value_by (are_digits 10 most ds) (nat_le (digits_value 10 ds) greatest) (digits_value 10 ds) v h in
+      low_by (are_digits 10 most ds) (nat_le least (digits_value 10 ds)) (nat_le (digits_value 10 ds) greatest) (digits_value 10 ds) (is_below least (digits_value 10 ds) (omega arith))
 
-pub number_below : (most least greatest : ℕ) (ds : List ℕ) → digits_value 10 ds < least → number most least greatest ds ≡ None
-unfolding number
-number_below most least greatest ds h = grind (arith, nat_tests)
-
-pub number_above : (most least greatest : ℕ) (ds : List ℕ) → greatest < digits_value 10 ds → number most least greatest ds ≡ None
-number_above = none_past
-
-pub number_some : (most least greatest : ℕ) (ds : List ℕ) → 0 < length ds → length ds ≤ most → list_all (λ c. is_digit c 10) ds ≡ true
-    → least ≤ digits_value 10 ds → digits_value 10 ds ≤ greatest → number most least greatest ds ≡ Some (digits_value 10 ds)
-unfolding number
-number_some most least greatest ds some few all low high = grind (arith, nat_tests)
+  pub number_some : (v : ℕ) → texts.number 10 most greatest ds ≡ Some v → least ≤ v → number most least greatest ds ≡ Some v
+  unfolding number
+  number_some v h low =
+      let same = value_by (are_digits 10 most ds) (nat_le (digits_value 10 ds) greatest) (digits_value 10 ds) v h in
+      some_by (are_digits 10 most ds) (nat_le least (digits_value 10 ds)) (nat_le (digits_value 10 ds) greatest) (digits_value 10 ds) v h (is_at_least least (digits_value 10 ds) (omega arith))
 
 -- what an `is_empty` says
-pub is_empty : (n : ℕ) (b : Bool) → b ≡ nat_eq n 0 → b ≡ true → n ≡ 0
-is_empty n b e h = grind (arith, nat_tests)
-
 pub is_not_empty : (n : ℕ) (b : Bool) → b ≡ nat_eq n 0 → b ≡ false → 0 < n
 is_not_empty n b e h = grind (arith, nat_tests)

@@ -5,6 +5,7 @@ use Rattle.capfilter.specs.Faults as filters
 use Rattle.prio_budget.specs.declared.mark_fault.MarkFault.{MarkFault}
 use Rattle.prio_budget.specs.MarkParts.{MarkParts}
 use Rattle.prio_budget.specs.Marks.{IsFirstFault}
+use Rattle.scapconf.specs.declared.limits.TheConstants.{LONGEST_TEXT, MOST_RULES}
 use Rattle.scapconf.specs.declared.name.Name.{Name}
 use Rattle.scapconf.specs.declared.name.Name.TheVariants as names
 use Rattle.scapconf.specs.declared.settings_error.SettingsKind.{SettingsKind}
@@ -83,9 +84,9 @@ IsUnknown (w ∷ ws) = is_some (name w) ≡ false
 abbrev pub is_repeated : List Words → Name → Words → Bool
 is_repeated before name ws = stands_once name && is_some (line_with (heading ws) before)
 
--- the most classes, and the most rules
+-- the most classes (those of cutclass are as many), and the most rules
 abbrev pub most : ℕ
-most = 32
+most = MOST_RULES
 
 -- as many classes or rules as there may be stand before
 abbrev pub is_one_too_many : List Words → Name → Words → Bool
@@ -143,7 +144,7 @@ pub record IsFaultAt (ls : List (List ℕ)) (number : ℕ) (kind : SettingsKind)
 
 -- the most bytes of a text
 abbrev pub longest : ℕ
-longest = 65536
+longest = LONGEST_TEXT
 
 -- the fault of a text: it is too long, or that of its first line that has one
 abbrev pub IsFault : List ℕ → ℕ → SettingsKind → Type 0

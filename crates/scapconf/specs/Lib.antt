@@ -1,4 +1,3 @@
-pub mod Front
 pub mod StatusText
 pub mod Defaults
 pub mod Causes

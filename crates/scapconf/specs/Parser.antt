@@ -27,7 +27,7 @@ use Rattle.scapconf.specs.declared.reader.Reader.{Reader}
 use Rattle.scapconf.specs.Lines.{Words, joined}
 use Rattle.scapconf.specs.Names.{line_with, head, place}
 use Rattle.scapconf.specs.Values.{word_at, mode, policy, size, time, cutoff}
-use Rattle.scapconf.specs.Faults.{budget_in, are_values, count_fits, is_repeated, is_one_too_many, IsNoBudget, IsNoFilter, IsNoExpression}
+use Rattle.scapconf.specs.Faults.{most, budget_in, are_values, count_fits, is_repeated, is_one_too_many, IsNoBudget, IsNoFilter, IsNoExpression}
 use Rattle.scapconf.specs.Says.{IsClass, Says}
 
 -- What the parser reads and keeps, joined to what the lines say.
@@ -173,8 +173,8 @@ applied Rule s = record s { rule_lines = s.rule_lines + 1 }
 
 -- as many classes or rules as there may be are there
 abbrev pub is_full : Name → Settings → Bool
-is_full names.Class s = nat_le 32 (length s.set.cutoffs.classes)
-is_full names.Rule s = nat_le 32 s.rule_lines
+is_full names.Class s = nat_le most (length s.set.cutoffs.classes)
+is_full names.Rule s = nat_le most s.rule_lines
 is_full names.Mode s = false
 is_full names.Policy s = false
 is_full (names.Size which) s = false
@@ -184,8 +184,8 @@ is_full names.Cutoff s = false
 is_full names.Budget s = false
 
 abbrev pub HasRoom : Setting → Settings → Type 0
-HasRoom (Class rule) s = length s.set.cutoffs.classes < 32
-HasRoom Rule s = s.rule_lines < 32
+HasRoom (Class rule) s = length s.set.cutoffs.classes < most
+HasRoom Rule s = s.rule_lines < most
 HasRoom (Mode m) s = Unit {0}
 HasRoom (Policy p) s = Unit {0}
 HasRoom (Sized which n) s = Unit {0}

@@ -5,13 +5,11 @@ ghost use Rattle.scapconf.specs.Faults.{IsFault};
 ghost use Rattle.scapconf.specs.Parser.{IsMemoryOrFault};
 ghost use Rattle.scapconf.specs.Says.{Reads};
 
+use crate::limits::LONGEST_TEXT;
 use crate::line::next_line;
 use crate::reader::Reader;
 use crate::{Settings, SettingsError, SettingsKind};
 use std::alloc::Global;
-
-/// The most bytes of a text.
-const LONGEST_TEXT: usize = 65_536;
 
 impl Settings {
     /// The settings that a text says (docs/FORMATS.md, "Settings"), or its first fault.

@@ -6,6 +6,7 @@ ghost use Rattle.scapconf.specs.Names.{name_in};
 ghost use Rattle.scapconf.specs.Parser.{key_in, has_key, with_key, applied, with_size, with_time, with_cutoff, is_full, HasRoom, Stands, IsNamedClean, IsNamedFault, IsMemoryOr};
 
 use crate::key::Key;
+use crate::limits::MOST_RULES;
 use crate::line::{is_comment, is_text};
 use crate::line_error::LineError;
 use crate::name::Name;
@@ -19,9 +20,6 @@ use crate::{Memory, Settings, SettingsKind};
 use cutclass::{ClassRule, Classes, Cut, Cutoffs, MOST_CLASSES};
 use overpolicy::Shape;
 use std::alloc::Global;
-
-/// The most rules.
-const MOST_RULES: u32 = 32;
 
 /// The settings so far, and what they were told of.
 #[derive(Drop)]

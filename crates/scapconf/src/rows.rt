@@ -6,7 +6,7 @@ ghost use Rattle.overpolicy.specs.declared.mode.Mode.TheVariants.{Strict, Fast};
 ghost use Rattle.overpolicy.specs.declared.policy.Policy.TheVariants.{First, Last, Bsd, Linux};
 ghost use Rattle.pcapfile.specs.declared.head_fault.HeadFault.TheVariants as heads;
 ghost use Rattle.scapconf.specs.Defaults.{default_shape, default_cutoffs, default_marks, default_settings};
-ghost use Rattle.scapconf.specs.Faults.{count_fits, longest, most};
+ghost use Rattle.scapconf.specs.Faults.{count_fits};
 ghost use Rattle.scapconf.specs.Lines.{is_text, said};
 ghost use Rattle.scapconf.specs.Names.{name, place, heading, line_with};
 ghost use Rattle.scapconf.specs.StatusText.{status_text};
@@ -17,6 +17,9 @@ ghost use Rattle.scapconf.specs.declared.settings_error.SettingsKind.TheVariants
 ghost use Rattle.scapconf.specs.declared.size.Size.TheVariants.{Chunk, Overlap, Reorder};
 ghost use Rattle.scapconf.specs.declared.status.Status.TheVariants as statuses;
 ghost use Rattle.scapconf.specs.declared.time.Time.TheVariants.{Flush, Hole, Idle};
+
+use crate::{LONGEST_TEXT, MOST_RULES};
+use cutclass::MOST_CLASSES;
 
 /// Texts with numbers and words.
 pub fn texts_tell_numbers()
@@ -47,8 +50,13 @@ pub fn lines_have_ends()
     ensures high { is_text (127 ∷ []) ≡ false }
     ensures returned { is_text (13 ∷ []) ≡ false }
     ensures fed { is_text (10 ∷ []) ≡ false }
-    ensures bytes { longest ≡ 65536 }
-    ensures many { most ≡ 32 }
+{}
+
+/// The most bytes of a text, and the most rules and classes in it.
+pub fn limits_are_the_stated_ones()
+    ensures bytes { LONGEST_TEXT ≡ 65536 }
+    ensures rules { MOST_RULES ≡ 32 }
+    ensures classes { MOST_CLASSES ≡ 32 }
 {}
 
 /// First words, and the second ones that are words.

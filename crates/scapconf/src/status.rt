@@ -1,11 +1,11 @@
 ghost use Rattle.std.specs.Prelude.{◌≡◌};
 ghost use Rattle.scapconf.specs.declared.status.Status.TheVariants.{Memory as OutOfMemory};
 
-use crate::put::put_text;
 use crate::status_text::{put_bad_record, put_cut_short, put_not_pcap, put_settings};
 use crate::{Memory, SettingsError, SettingsKind};
 use pcapfile::HeadFault;
 use std::alloc::{AllocError, AllocFailed};
+use textout::put_text;
 
 /// How a command ended.
 #[derive(Clone, Copy, Debug, PartialEq, Eq)]
@@ -78,7 +78,7 @@ impl From<SettingsError> for Status {
 
 impl Status {
     ghost use Rattle.std.specs.Prelude.{◌≡◌, ◌++◌, OnOk, OnErr};
-    ghost use Rattle.scapconf.specs.Front.{IsFront};
+    ghost use Rattle.textout.specs.Front.{IsFront};
     ghost use Rattle.scapconf.specs.StatusText.{number_of, status_text};
 
     /// The number that a program ends with.
@@ -100,7 +100,7 @@ impl Status {
         }
     }
 
-    fn put_parts(&self, usage: &str, out: &mut Vec<u8>) -> Result<(), Memory>
+    fn put_parts(&self, usage: &str, out: &mut Vec<u8>) -> Result<(), textout::Memory>
         ensures ok { OnOk result (out.new.items ≡ out.old.items ++ status_text usage.now self.now) }
         ensures err { OnErr result (IsFront out.old.items out.new.items) }
     {
@@ -125,10 +125,10 @@ impl Status {
         ensures err { OnErr result (out.new.items ≡ out.old.items) }
     {
         let start = out.len();
-        let done = self.put_parts(usage, out);
-        if done.is_err() {
+        if self.put_parts(usage, out).is_err() {
             out.truncate(start);
+            return Err(Memory);
         }
-        done
+        Ok(())
     }
 }

@@ -1,11 +1,11 @@
 // Texts of statuses that have more than one word to tell.
 ghost use Rattle.std.specs.Prelude.{◌≡◌, ◌++◌, OnOk, OnErr};
-ghost use Rattle.scapconf.specs.Front.{IsFront};
+ghost use Rattle.textout.specs.Front.{IsFront};
 ghost use Rattle.scapconf.specs.StatusText.{bad_record_text, cut_short_text, fault_word, kind_word, not_pcap_text, settings_text};
 
-use crate::put::{put_count, put_text};
-use crate::{Memory, SettingsKind};
+use crate::SettingsKind;
 use pcapfile::HeadFault;
+use textout::{Memory, put_count, put_text};
 
 fn word_of(kind: SettingsKind) -> &'static str
     ensures { result.now ≡ kind_word kind }

@@ -2,7 +2,7 @@ use Rattle.std.proofs.Common.{◌≡◌, ◌≤◌, ◌-◌, length, drop}
 use Rattle.capfilter.specs.Tokens.{tokens}
 use Rattle.capfilter.specs.Reader.{read, outcome}
 use Rattle.capfilter.specs.Parser.{state_of, IsParser}
-use Rattle.capfilter.proofs.reading.read_text.Given as goal
+use Rattle.capfilter.proofs.token_reader.read_text.Given as goal
 
 -- reading the rest from here ends as reading the whole text does
 abbrev pub invariant-loop-start : goal.invariant-loop-start

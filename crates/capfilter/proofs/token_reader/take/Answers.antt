@@ -3,7 +3,7 @@ use Rattle.capfilter.specs.Tokens.{Token}
 use Rattle.capfilter.specs.Reader.{read, levels, step}
 use Rattle.capfilter.specs.Parser.{state_of, frames_of, next_of, Went}
 use Rattle.capfilter.proofs.OutcomeLemmas.{one_good}
-use Rattle.capfilter.proofs.reading.take.Goals as goal
+use Rattle.capfilter.proofs.token_reader.take.Goals as goal
 
 pub returns-clause-read : goal.returns-clause-read
 returns-clause-read c end ts =

@@ -1,8 +1,8 @@
-use Rattle.std.proofs.Common.{◌≡◌, ◌+◌, ◌∙◌, ◌++◌, ap, sym, subst, length, arith, List, string_bytes, ℕ}
+use Rattle.std.proofs.Common.{◌≡◌, ◌+◌, ◌∙◌, ◌++◌, ap, sym, subst, length, arith, List, ℕ}
 use Rattle.capfilter.specs.Nodes.{trees}
 use Rattle.capfilter.specs.Tasks.{to_print, task_text, total_size, task_size, AreTasksOf}
 use Rattle.capfilter.proofs.ShownLemmas.{AreTasksOf-last, total_size-last, to_print-last}
-use Rattle.capfilter.proofs.shown.shown_of.Goals as goal
+use Rattle.capfilter.proofs.printer.shown_of.Goals as goal
 
 pub put_step-requires-clause-within : goal.put_step-requires-clause-within
 put_step-requires-clause-within c =
@@ -25,6 +25,6 @@ loop-task-preserved c =
     let all : to_print ts c.loop-task.tasks.items ≡ task_text ts c.in-Some.task ++ to_print ts c.pop.new.self.items =
     ap (to_print ts) c.in-Some.ensures.items ∙ to_print-last ts c.pop.new.self.items c.in-Some.task in
     record {
-      text = c.in_ok-put_step.ensures.text ∙ ap (λ (l : List ℕ). string_bytes c.loop-task.out ++ l) (sym all) ∙ c.loop-task.invariant.text;
+      text = c.in_ok-put_step.ensures.text ∙ ap (λ (l : List ℕ). c.loop-task.out.items ++ l) (sym all) ∙ c.loop-task.invariant.text;
       within = c.in_ok-put_step.ensures.within;
     }

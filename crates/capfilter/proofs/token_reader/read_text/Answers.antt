@@ -4,7 +4,7 @@ use Rattle.std.proofs.lemmas.Result.{err_from_is_err_and}
 use Rattle.capfilter.specs.Tokens.{tokens}
 use Rattle.capfilter.specs.Reader.{Outcome, read, outcome, IsRefusal}
 use Rattle.capfilter.specs.Parser.{state_of}
-use Rattle.capfilter.proofs.reading.read_text.Goals as goal
+use Rattle.capfilter.proofs.token_reader.read_text.Goals as goal
 
 pub returns-in_err-take-clause-read : goal.returns-in_err-take-clause-read
 returns-in_err-take-clause-read c =

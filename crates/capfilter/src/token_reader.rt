@@ -9,17 +9,12 @@ ghost use Rattle.capfilter.specs.Parser.{state_of, next_of, IsParser};
 
 use crate::end_test::can_be_end_test;
 use crate::filter_error::{FilterError, FilterFault, FilterKind};
+use crate::limits::{MOST_LEVELS, MOST_TOKENS};
 use crate::node::Node;
 use crate::parser::{Next, Parser};
 use crate::token::next_token;
 use crate::word::Word;
 use std::alloc::Global;
-
-/// The most tokens of a filter.
-const MOST_TOKENS: usize = 512;
-
-/// The most levels of `not` and brackets.
-const MOST_LEVELS: usize = 64;
 
 fn can_be_known(token: &[u8]) -> bool
     ensures { result ≡ is_known token.now }
@@ -54,7 +49,7 @@ fn fault(at: usize, kind: FilterKind) -> FilterError
 fn take(parser: &mut Parser, at: usize, token: &[u8]) -> Result<(), FilterError>
     requires { IsParser parser.old }
     ensures is { OnOk result (IsParser parser.new) }
-    ensures few { OnOk result (parser.new.count ≤ 512) }
+    ensures few { OnOk result (parser.new.count ≤ MOST_TOKENS) }
     ensures read { (end : ℕ) (ts : List Token) → MatchResult result
         (λ _. read end parser.old.count (state_of parser.old) (record { at = at; bytes = token.now } ∷ ts) ≡ read end parser.new.count (state_of parser.new) ts)
         (λ e. IsRefusal (read end parser.old.count (state_of parser.old) (record { at = at; bytes = token.now } ∷ ts)) e) }
@@ -90,7 +85,7 @@ fn finish(parser: Parser, end: usize) -> Result<Vec<Node>, FilterError>
 /// The nodes of the expression that a text is.
 pub(crate) fn read_text(alloc: Global, text: &[u8]) -> Result<Vec<Node>, FilterError>
     ensures some { IfOk result (λ ns. 0 < length ns.items) }
-    ensures few { IfOk result (λ ns. length ns.items ≤ 512) }
+    ensures few { IfOk result (λ ns. length ns.items ≤ MOST_TOKENS) }
     ensures below { IfOk result (λ ns. AreBelow ns.items) }
     ensures read { MatchResult result (λ ns. outcome text.now ≡ Parsed (root ns.items)) (λ e. IsRefusal (outcome text.now) e) }
 {

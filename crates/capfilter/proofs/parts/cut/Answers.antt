@@ -1,7 +1,7 @@
 use Rattle.std.proofs.Common.{◌+◌, ◌∷◌, ◌++◌, nat_eq, take, sym, ◌∙◌, ap}
 use Rattle.std.specs.List.{slice_split}
 use Rattle.capfilter.proofs.NumbersLemmas.{parts_none, parts_some, found_at, rest_taken, split_there}
-use Rattle.capfilter.proofs.number.cut.Goals as goal
+use Rattle.capfilter.proofs.parts.cut.Goals as goal
 
 pub returns-in-None-clause-parts : goal.returns-in-None-clause-parts
 returns-in-None-clause-parts c = parts_none (λ b. nat_eq b c.args.byte) c.args.text.now (sym c.in-None.ensures)

@@ -1,6 +1,0 @@
-use Rattle.std.specs.Prelude.{◌≡◌, ℕ, List, ◌++◌}
-
--- a text begins with another
-pub record IsFront (front text : List ℕ) : Type 0 where
-  pub rest : List ℕ
-  pub is : text ≡ front ++ rest
