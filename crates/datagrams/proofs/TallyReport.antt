@@ -1,6 +1,5 @@
 -- What the report of a run of one core of datagrams shows: the running numbers.
-use Rattle.std.specs.Prelude.{◌≡◌, refl, ℕ, ◌<◌, Bool, true, false, cond, not, ◌&&◌, nat_lt, ◌==◌, List, [], ◌∷◌, ◌++◌, map, flat_map, codes}
-use Rattle.std.specs.Fmt.{decimal}
+use Rattle.std.specs.Prelude.{◌≡◌, refl, ℕ, ◌<◌, Bool, true, false, cond, not, ◌&&◌, nat_lt, ◌==◌, List, [], ◌∷◌, ◌++◌, map, flat_map}
 use Rattle.std.proofs.Common.{sym, ◌∙◌, ap, subst, arith, append-nil}
 use Rattle.std.proofs.lemmas.Bool.Decides.{nat_tests}
 use Rattle.std.proofs.lemmas.List.{map-append}
@@ -15,12 +14,11 @@ use Rattle.streamdefs.specs.Convo.{convo_after, is_live, new_convo}
 use Rattle.streamdefs.specs.Core.{Line, Open, core_at, idle_core, history}
 use Rattle.streamdefs.specs.Lawful.{Run}
 use Rattle.streamdefs.specs.Totals.{Total, total_of}
-use Rattle.streamdefs.specs.Handler.{way_mark, spaced}
-use Rattle.streamdefs.specs.Report.{Tallied, tallied_on, put_tallied, by_number, tallied_in, totals_in, numbers_of, dir_line, dir_lines, bytes_line, RecordCounts, Outcome, records_line, budget_line, status_line, total_lines}
+use Rattle.streamdefs.specs.Report.{Tallied, tallied_on, put_tallied, by_number, tallied_in, totals_in, numbers_of, dir_line, dir_lines, bytes_line, totals_line, RecordCounts, Outcome, records_line, history_line, status_line, total_lines}
 use Rattle.streamdefs.specs.Order.{all_moves, all_looks}
 use Rattle.datagrams.specs.Flow.{plain}
 use Rattle.datagrams.specs.Table.{HasNoId}
-use Rattle.datagrams.specs.Sums.{Sums, HasSums, Row, kept_in, number_of, Tallies, IsBelow, Rises, numbers_in, sums_line, row_lines, over_both, rows_line}
+use Rattle.datagrams.specs.Sums.{Sums, HasSums, Row, kept_in, number_of, Tallies, IsBelow, Rises, numbers_in, row_lines, over_both, rows_line}
 
 -- Numbers that rise.
 
@@ -103,9 +101,8 @@ tallied_rise t lines (r ∷ rows) (o ∷ os) h = λ i. h.0.number i ∷ tallied_
 pub numbers_are : (s : Sums) (total : Total) → HasSums s total → numbers_of total ≡ numbers_in s
 numbers_are s total h = λ i. h.payload i ∷ h.delivered i ∷ (h.counts i).duplicate ∷ (h.counts i).late ∷ (h.counts i).cut ∷ (h.counts i).shed ∷ h.gaps i ∷ h.gap_bytes i ∷ []
 
-line_is : (conv number : ℕ) (way : Way) (s : Sums) (total : Total) → conv ≡ number → HasSums s total → dir_line conv way total ≡ sums_line number way s
-unfolding dir_line sums_line
-line_is conv number way s total e h = λ i. codes "dir " ++ decimal (e i) ++ codes " " ++ way_mark way ++ spaced (numbers_are s total h i) ++ codes "\n"
+line_is : (conv number : ℕ) (way : Way) (s : Sums) (total : Total) → conv ≡ number → HasSums s total → dir_line conv way (numbers_of total) ≡ dir_line number way (numbers_in s)
+line_is conv number way s total e h = λ i. dir_line (e i) way (numbers_are s total h i)
 
 lines_are : (t : Terms) (lines : List Line) (rows : List Row) (os : List Open) → Tallies t lines rows os → flat_map dir_lines (map (tallied_as (plain t) lines) os) ≡ flat_map row_lines rows
 lines_are t lines [] [] h = refl
@@ -194,14 +191,10 @@ module _ (t : Terms) (run : Run) (lines : List Line) (rows : List Row)
   shed_is = over_all (λ u. u.counts.shed) (λ s. s.shed) (λ s u h. ap (λ c. c.shed) h.counts)
 
   -- the line of all bytes
-  pub bytes_line_is : bytes_line (totals_in (tallied_in run)) ≡ rows_line rows
-  unfolding bytes_line rows_line
-  bytes_line_is = λ i.
-      codes "bytes payload " ++ decimal (payload_is i) ++ codes " delivered " ++ decimal (delivered_is i)
-      ++ codes " duplicate " ++ decimal (duplicate_is i) ++ codes " late " ++ decimal (late_is i)
-      ++ codes " cut " ++ decimal (cut_is i) ++ codes " shed " ++ decimal (shed_is i) ++ codes "\n"
+  pub totals_line_is : totals_line (totals_in (tallied_in run)) ≡ rows_line rows
+  totals_line_is = λ i. bytes_line (payload_is i) (delivered_is i) (duplicate_is i) (late_is i) (cut_is i) (shed_is i)
 
   -- all lines behind the journal
   pub total_lines_are : (records : RecordCounts) (outcome : Outcome) → total_lines run records outcome
-      ≡ flat_map row_lines rows ++ records_line records ++ rows_line rows ++ budget_line (all_moves run) (all_looks run) ++ status_line outcome
-  total_lines_are records outcome = λ i. dir_lines_are i ++ records_line records ++ bytes_line_is i ++ budget_line (all_moves run) (all_looks run) ++ status_line outcome
+      ≡ flat_map row_lines rows ++ records_line records ++ rows_line rows ++ history_line (all_moves run) (all_looks run) ++ status_line outcome
+  total_lines_are records outcome = λ i. dir_lines_are i ++ records_line records ++ totals_line_is i ++ history_line (all_moves run) (all_looks run) ++ status_line outcome

@@ -10,7 +10,7 @@ use Rattle.streamdefs.specs.Accounts.{IsAccounted}
 use Rattle.streamdefs.specs.Totals.{peak, refused}
 use Rattle.streamdefs.specs.Lawful.{Lawful, Run}
 use Rattle.streamdefs.specs.Order.{OneHistory, all_looks, all_moves}
-use Rattle.streamdefs.specs.Report.{Outcome, RecordCounts, budget_line, records_line, status_line, tallied_in, total_lines, totals_in}
+use Rattle.streamdefs.specs.Report.{Outcome, RecordCounts, history_line, records_line, status_line, tallied_in, total_lines, totals_in}
 use Rattle.streamdefs.specs.WorkerText.{worker_text}
 use Rattle.streamdefs.specs.Case.{run_of}
 use Rattle.datagrams.specs.declared.conversation.Conversation.{Conversation}
@@ -60,7 +60,7 @@ pub record IsReplay (t : Terms) (packets : List Packet) (last : ℕ) (journal : 
   pub one_worker : length journal.workers ≡ 1
   pub lines : (records : RecordCounts) (outcome : Outcome) → total_lines (run_for t packets last journal) records outcome
       ≡ flat_map row_lines (rows_of false table) ++ records_line records ++ rows_line (rows_of false table)
-      ++ budget_line (all_moves (run_for t packets last journal)) (all_looks (run_for t packets last journal)) ++ status_line outcome
+      ++ history_line (all_moves (run_for t packets last journal)) (all_looks (run_for t packets last journal)) ++ status_line outcome
   pub stamps_are : length (all_moves (run_for t packets last journal)) ≡ stamps
   pub peak_is : peak (all_moves (run_for t packets last journal)) ≡ peak_
   pub refused_are : refused (all_looks (run_for t packets last journal)) ≡ refused_

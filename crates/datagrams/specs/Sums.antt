@@ -1,6 +1,5 @@
 -- The running numbers of a direction of datagrams, and what they come to.
-use Rattle.std.specs.Prelude.{◌≡◌, ⊤, ℕ, suc, ◌+◌, ◌-◌, ◌<◌, ◌≤◌, cond, nat_lt, List, [], ◌∷◌, ◌++◌, length, map, codes, Option, Some, None}
-use Rattle.std.specs.Fmt.{decimal}
+use Rattle.std.specs.Prelude.{◌≡◌, ⊤, ℕ, suc, ◌+◌, ◌-◌, ◌<◌, ◌≤◌, cond, nat_lt, List, [], ◌∷◌, ◌++◌, length, map, Option, Some, None}
 use Rattle.evring.specs.declared.way.Way.{Way}
 use Rattle.evring.specs.declared.way.Way.TheVariants.{Fore, Back}
 use Rattle.streamdefs.specs.Lists.{total}
@@ -9,7 +8,7 @@ use Rattle.streamdefs.specs.Terms.{Terms}
 use Rattle.streamdefs.specs.Convo.{Delivery, new_convo, convo_after}
 use Rattle.streamdefs.specs.Core.{Line, Open, history}
 use Rattle.streamdefs.specs.Totals.{Total, total_of, gap_bytes}
-use Rattle.streamdefs.specs.Handler.{way_mark, spaced}
+use Rattle.streamdefs.specs.Report.{dir_line, bytes_line}
 use Rattle.datagrams.specs.Flow.{Flow, OpenChunk, plain, piece_for, size, gap_before}
 use Rattle.datagrams.specs.Table.{Kept}
 
@@ -125,21 +124,14 @@ Rises (n ∷ ns) = IsBelow n ns × Rises ns
 abbrev pub numbers_in : Sums → List ℕ
 numbers_in s = s.payload ∷ s.delivered ∷ 0 ∷ 0 ∷ 0 ∷ s.shed ∷ s.gaps ∷ s.gap_bytes ∷ []
 
--- that line
-unfoldable pub sums_line : ℕ → Way → Sums → List ℕ
-sums_line conv way s = codes "dir " ++ decimal conv ++ codes " " ++ way_mark way ++ spaced (numbers_in s) ++ codes "\n"
-
 -- the two lines of a conversation
 abbrev pub row_lines : Row → List ℕ
-row_lines r = sums_line (number_of r) Fore r.sums.fore ++ sums_line (number_of r) Back r.sums.back
+row_lines r = dir_line (number_of r) Fore (numbers_in r.sums.fore) ++ dir_line (number_of r) Back (numbers_in r.sums.back)
 
 -- a number over both directions
 abbrev pub over_both : (Sums → ℕ) → Row → ℕ
 over_both f r = f r.sums.fore + f r.sums.back
 
 -- the line of all bytes
-unfoldable pub rows_line : List Row → List ℕ
-rows_line rows =
-    codes "bytes payload " ++ decimal (total (over_both (λ s. s.payload)) rows) ++ codes " delivered " ++ decimal (total (over_both (λ s. s.delivered)) rows)
-    ++ codes " duplicate " ++ decimal 0 ++ codes " late " ++ decimal 0
-    ++ codes " cut " ++ decimal 0 ++ codes " shed " ++ decimal (total (over_both (λ s. s.shed)) rows) ++ codes "\n"
+abbrev pub rows_line : List Row → List ℕ
+rows_line rows = bytes_line (total (over_both (λ s. s.payload)) rows) (total (over_both (λ s. s.delivered)) rows) 0 0 0 (total (over_both (λ s. s.shed)) rows)

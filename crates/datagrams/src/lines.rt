@@ -1,50 +1,18 @@
 // The lines of a delivery file.
-ghost use Rattle.std.specs.Prelude.{◌≡◌, ◌+◌, ◌<◌, ◌++◌, OnOk};
-ghost use Rattle.streamdefs.specs.Handler.{dotted, grouped, group_at, address_text, end_text, proto_word, way_mark, reason_word, new_line, data_line, end_line};
+ghost use Rattle.std.specs.Prelude.{◌≡◌, ◌++◌, OnOk};
+ghost use Rattle.streamdefs.specs.Handler.{address_text, end_text, proto_word, way_mark, reason_word, new_line, data_line, end_line};
 
 use crate::Memory;
-use crate::put::{put_count, put_hex, put_number, put_numbers, put_text};
 use evring::{Reason, Way};
 use streamkey::{Addr, End, Proto};
-
-#[tactic(auto, unfolding(streamdefs::specs::Handler::dotted))]
-fn put_dotted(out: &mut Vec<u8>, address: [u8; 4]) -> Result<(), Memory>
-    ensures { OnOk result (out.new.items ≡ out.old.items ++ dotted address) }
-{
-    let [a, b, c, d] = address;
-    put_number(out, u64::from(a))?;
-    put_text(out, ".")?;
-    put_number(out, u64::from(b))?;
-    put_text(out, ".")?;
-    put_number(out, u64::from(c))?;
-    put_text(out, ".")?;
-    put_number(out, u64::from(d))
-}
-
-fn put_group(out: &mut Vec<u8>, address: &[u8; 16], i: usize) -> Result<(), Memory>
-    requires { i < 8 }
-    ensures { OnOk result (out.new.items ≡ out.old.items ++ group_at address.now i) }
-{
-    put_hex(out, &[address[2 * i], address[2 * i + 1]])
-}
-
-#[tactic(auto, unfolding(streamdefs::specs::Handler::grouped))]
-fn put_grouped(out: &mut Vec<u8>, address: &[u8; 16]) -> Result<(), Memory>
-    ensures { OnOk result (out.new.items ≡ out.old.items ++ grouped address.now) }
-{
-    for i in 0..7 {
-        put_group(out, address, i)?;
-        put_text(out, ":")?;
-    }
-    put_group(out, address, 7)
-}
+use textout::{put_count, put_dotted, put_groups, put_hex, put_number, put_numbers, put_text};
 
 fn put_address(out: &mut Vec<u8>, address: Addr) -> Result<(), Memory>
     ensures { OnOk result (out.new.items ≡ out.old.items ++ address_text address) }
 {
     match address {
         Addr::V4(bytes) => put_dotted(out, bytes),
-        Addr::V6(bytes) => put_grouped(out, &bytes),
+        Addr::V6(bytes) => put_groups(out, &bytes),
     }
 }
 

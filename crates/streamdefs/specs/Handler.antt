@@ -1,7 +1,9 @@
 -- The lines of a delivery file: docs/FORMATS.md, "Delivery lines".
-use Rattle.std.specs.Prelude.{ℕ, zero, suc, ◌+◌, List, [], ◌∷◌, ◌++◌, length, slice_index, codes, flat_map}
+use Rattle.std.specs.Prelude.{ℕ, List, [], ◌∷◌, ◌++◌, length, codes}
 use Rattle.std.specs.Fmt.{decimal}
 use Rattle.hex.specs.Hex.{encode_lower}
+use Rattle.textout.specs.Addresses.{dotted, grouped}
+use Rattle.textout.specs.Texts.{spaced}
 use Rattle.evring.specs.declared.reason.Reason.{Reason}
 use Rattle.evring.specs.declared.reason.Reason.TheVariants.{Reset, Closed, Idle, Replaced, Finish}
 use Rattle.evring.specs.declared.way.Way.{Way}
@@ -14,23 +16,6 @@ use Rattle.streamkey.specs.declared.proto.Proto.TheVariants.{Tcp, Udp}
 use Rattle.streamkey.specs.Key.{source_of, target_of}
 use Rattle.streamdefs.specs.Convo.{Seen}
 use Rattle.streamdefs.specs.Convo.Seen.{Created, Data, Over}
-
--- four decimal numbers joined by dots
-unfoldable pub dotted : List ℕ → List ℕ
-dotted a = decimal (slice_index a 0) ++ codes "." ++ decimal (slice_index a 1) ++ codes "." ++ decimal (slice_index a 2) ++ codes "." ++ decimal (slice_index a 3)
-
--- two bytes as four lower-case hexadecimal digits
-abbrev pub group_at : List ℕ → ℕ → List ℕ
-group_at a i = encode_lower (slice_index a (i + i) ∷ slice_index a (i + i + 1) ∷ [])
-
--- the first groups, each with a colon behind it
-abbrev pub colon_groups : List ℕ → ℕ → List ℕ
-colon_groups a zero = []
-colon_groups a (suc n) = colon_groups a n ++ (group_at a n ++ codes ":")
-
--- eight groups joined by colons
-unfoldable pub grouped : List ℕ → List ℕ
-grouped a = colon_groups a 7 ++ group_at a 7
 
 -- an address
 abbrev pub address_text : Addr → List ℕ
@@ -63,10 +48,6 @@ reason_word Finish = codes "finish"
 unfoldable pub new_line : ℕ → Proto → End → End → List ℕ
 new_line conv proto source target =
     codes "new " ++ decimal conv ++ codes " " ++ proto_word proto ++ codes " " ++ end_text source ++ codes " " ++ end_text target ++ codes "\n"
-
--- numbers, each behind a space
-abbrev pub spaced : List ℕ → List ℕ
-spaced = flat_map (λ n. codes " " ++ decimal n)
 
 -- bytes are delivered: where the fresh ones start, the gap before them, how many are a copy and how many were kept, and the bytes
 unfoldable pub data_line : ℕ → Way → (start gap over kept : ℕ) → List ℕ → List ℕ

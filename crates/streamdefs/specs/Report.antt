@@ -15,7 +15,8 @@ use Rattle.streamdefs.specs.Core.{Open, Line, core_at, idle_core, history}
 use Rattle.streamdefs.specs.Lawful.{Run}
 use Rattle.streamdefs.specs.Order.{all_moves, all_looks}
 use Rattle.streamdefs.specs.Totals.{Total, total_of, gap_bytes, peak, refused}
-use Rattle.streamdefs.specs.Handler.{way_mark, spaced}
+use Rattle.textout.specs.Texts.{spaced}
+use Rattle.streamdefs.specs.Handler.{way_mark}
 
 -- how many records were accepted, and how many were not, by the reason
 pub record RecordCounts : Type 0 where
@@ -76,12 +77,12 @@ unfoldable pub head_lines : (cores workers : ℕ) → List ℕ
 head_lines cores workers = codes "scap report 1\ncores " ++ decimal cores ++ codes " workers " ++ decimal workers ++ codes "\n"
 
 -- what became of a direction's bytes
-unfoldable pub dir_line : ℕ → Way → Total → List ℕ
-dir_line conv way t = codes "dir " ++ decimal conv ++ codes " " ++ way_mark way ++ spaced (numbers_of t) ++ codes "\n"
+unfoldable pub dir_line : ℕ → Way → (numbers : List ℕ) → List ℕ
+dir_line conv way numbers = codes "dir " ++ decimal conv ++ codes " " ++ way_mark way ++ spaced numbers ++ codes "\n"
 
 -- the two lines of a conversation
 abbrev pub dir_lines : Tallied → List ℕ
-dir_lines t = dir_line t.conv Fore t.totals.fore ++ dir_line t.conv Back t.totals.back
+dir_lines t = dir_line t.conv Fore (numbers_of t.totals.fore) ++ dir_line t.conv Back (numbers_of t.totals.back)
 
 -- how many records there are, and of each kind
 unfoldable pub records_line : RecordCounts → List ℕ
@@ -89,16 +90,25 @@ records_line n =
     codes "records " ++ decimal (records_of n) ++ codes " accepted " ++ decimal n.accepted ++ codes " filtered " ++ decimal n.filtered
     ++ codes " other " ++ decimal n.other ++ codes " fragment " ++ decimal n.fragment ++ codes " short " ++ decimal n.short ++ codes "\n"
 
--- what became of all bytes: the sums of the directions'
-unfoldable pub bytes_line : List Total → List ℕ
-bytes_line ts =
-    codes "bytes payload " ++ decimal (total (λ t. t.payload) ts) ++ codes " delivered " ++ decimal (total (λ t. t.delivered) ts)
-    ++ codes " duplicate " ++ decimal (total (λ t. t.counts.duplicate) ts) ++ codes " late " ++ decimal (total (λ t. t.counts.late) ts)
-    ++ codes " cut " ++ decimal (total (λ t. t.counts.cut) ts) ++ codes " shed " ++ decimal (total (λ t. t.counts.shed) ts) ++ codes "\n"
+-- what became of all bytes
+unfoldable pub bytes_line : (payload delivered duplicate late cut shed : ℕ) → List ℕ
+bytes_line payload delivered duplicate late cut shed =
+    codes "bytes payload " ++ decimal payload ++ codes " delivered " ++ decimal delivered ++ codes " duplicate " ++ decimal duplicate
+    ++ codes " late " ++ decimal late ++ codes " cut " ++ decimal cut ++ codes " shed " ++ decimal shed ++ codes "\n"
+
+-- the sums of the directions'
+abbrev pub totals_line : List Total → List ℕ
+totals_line ts =
+    bytes_line (total (λ t. t.payload) ts) (total (λ t. t.delivered) ts) (total (λ t. t.counts.duplicate) ts) (total (λ t. t.counts.late) ts)
+    (total (λ t. t.counts.cut) ts) (total (λ t. t.counts.shed) ts)
 
 -- how many grants and releases there were, the most bytes that were in use, and how many looks were refused
-unfoldable pub budget_line : List BudgetMove → List LookEntry → List ℕ
-budget_line moves looks = codes "budget stamps " ++ decimal (length moves) ++ codes " peak " ++ decimal (peak moves) ++ codes " refused " ++ decimal (refused looks) ++ codes "\n"
+unfoldable pub budget_line : (stamps peak refused : ℕ) → List ℕ
+budget_line stamps peak refused = codes "budget stamps " ++ decimal stamps ++ codes " peak " ++ decimal peak ++ codes " refused " ++ decimal refused ++ codes "\n"
+
+-- those of a history
+abbrev pub history_line : List BudgetMove → List LookEntry → List ℕ
+history_line moves looks = budget_line (length moves) (peak moves) (refused looks)
 
 -- how the run ended
 unfoldable pub status_line : Outcome → List ℕ
@@ -107,7 +117,7 @@ status_line outcome = codes "status " ++ decimal outcome.status ++ spaced outcom
 -- the report's lines behind the journal
 abbrev pub total_lines : Run → RecordCounts → Outcome → List ℕ
 total_lines run records outcome =
-    flat_map dir_lines (tallied_in run) ++ records_line records ++ bytes_line (totals_in (tallied_in run)) ++ budget_line (all_moves run) (all_looks run) ++ status_line outcome
+    flat_map dir_lines (tallied_in run) ++ records_line records ++ totals_line (totals_in (tallied_in run)) ++ history_line (all_moves run) (all_looks run) ++ status_line outcome
 
 -- the report, with the journal that the run was read from
 unfoldable pub report_text : Run → Journal → RecordCounts → Outcome → List ℕ

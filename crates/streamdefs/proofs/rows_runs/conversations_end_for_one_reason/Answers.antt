@@ -1,7 +1,8 @@
 use Rattle.std.proofs.Common.{refl}
 use Rattle.std.specs.Fmt.{digits}
 use Rattle.hex.specs.Hex.{encode_with}
-use Rattle.streamdefs.specs.Handler.{dotted, grouped, end_text, new_line, data_line, end_line}
+use Rattle.textout.specs.Addresses.{dotted, grouped}
+use Rattle.streamdefs.specs.Handler.{end_text, new_line, data_line, end_line}
 use Rattle.streamdefs.specs.Report.{head_lines, dir_line, records_line, bytes_line, budget_line, status_line, report_text}
 use Rattle.streamdefs.proofs.LawfulRuns.{replaced_run-lawful, replaced_run-history, reset_run-lawful, reset_run-history, closed_run-lawful, closed_run-history}
 use Rattle.streamdefs.proofs.rows_runs.conversations_end_for_one_reason.Goals as goal

@@ -1,7 +1,8 @@
 use Rattle.std.proofs.Common.{refl}
 use Rattle.std.specs.Fmt.{digits}
 use Rattle.hex.specs.Hex.{encode_with}
-use Rattle.streamdefs.specs.Handler.{dotted, grouped, end_text, new_line, data_line, end_line}
+use Rattle.textout.specs.Addresses.{dotted, grouped}
+use Rattle.streamdefs.specs.Handler.{end_text, new_line, data_line, end_line}
 use Rattle.streamdefs.specs.Report.{head_lines, dir_line, records_line, bytes_line, budget_line, status_line, report_text}
 use Rattle.streamdefs.proofs.LawfulRuns.{keep_run-lawful, keep_run-history, late_keep_run-lawful, late_keep_run-history, unshown_run-lawful, unshown_run-history}
 use Rattle.streamdefs.proofs.rows_runs.kept_chunks_ride_along.Goals as goal

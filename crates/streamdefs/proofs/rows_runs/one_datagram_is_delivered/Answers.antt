@@ -2,7 +2,8 @@ use Rattle.std.proofs.Common.{refl}
 use Rattle.std.specs.Fmt.{digits}
 use Rattle.histbook.specs.JournalText.{look_word, free_word, line_end, advice_word, line_of, from_line, journal_text}
 use Rattle.hex.specs.Hex.{encode_with}
-use Rattle.streamdefs.specs.Handler.{dotted, grouped, end_text, new_line, data_line, end_line}
+use Rattle.textout.specs.Addresses.{dotted, grouped}
+use Rattle.streamdefs.specs.Handler.{end_text, new_line, data_line, end_line}
 use Rattle.streamdefs.specs.Report.{head_lines, dir_line, records_line, bytes_line, budget_line, status_line, report_text}
 use Rattle.streamdefs.proofs.LawfulRuns.{one_run-lawful, one_run-history}
 use Rattle.streamdefs.proofs.rows_runs.one_datagram_is_delivered.Goals as goal
