@@ -1,13 +1,14 @@
 use Rattle.std.specs.Prelude.{ℕ, List, [], ◌∷◌}
+use Rattle.pcapfile.specs.declared.limits.TheConstants.{HEAD_SIZE, HEADER_SIZE, LONGEST_RECORD}
 
 -- The numbers of a capture file, pcap 2.4.
 
 -- the bytes of the file header, and of the header of a record
 abbrev pub head_len : ℕ
-head_len = 24
+head_len = HEAD_SIZE
 
 abbrev pub header_len : ℕ
-header_len = 16
+header_len = HEADER_SIZE
 
 -- where the major version, and the link type, stand in the file header
 abbrev pub major_at : ℕ
@@ -40,7 +41,7 @@ len_at = 8
 
 -- the longest captured length of a record that is read
 abbrev pub longest : ℕ
-longest = 262144
+longest = LONGEST_RECORD
 
 -- nanoseconds of a second, and of a microsecond
 abbrev pub second : ℕ

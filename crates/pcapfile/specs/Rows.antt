@@ -1,14 +1,15 @@
 use Rattle.std.specs.Prelude.{ℕ, true, false, List, [], ◌∷◌, ◌++◌}
 use Rattle.pcapfile.specs.declared.frame.Frame.{Frame}
 use Rattle.pcapfile.specs.declared.head.FileHead.{FileHead}
+use Rattle.pcapfile.specs.declared.limits.TheConstants.{MOST_RECORDS, MOST_BYTES}
 use Rattle.pcapfile.specs.declared.link.Link.TheVariants.{Ethernet}
 use Rattle.pcapfile.specs.Capture.{Limits}
 
 -- Captures written out by hand.
 
--- up to 2 ^ 22 records and 2 ^ 32 bytes
+-- the most records and bytes that are read
 abbrev pub ample : Limits
-ample = record { frames = 4194304; bytes = 4294967296 }
+ample = record { frames = MOST_RECORDS; bytes = MOST_BYTES }
 
 -- a little-endian file header with microseconds, version 2.4, snap length 262,144, link type 1
 abbrev pub little_head : List ℕ

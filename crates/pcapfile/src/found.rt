@@ -2,13 +2,10 @@ ghost use Rattle.std.specs.Prelude.{◌≡◌, ◌+◌, ◌≤◌, ◌<◌, ◌^
 ghost use Rattle.pcapfile.specs.Capture.{moment_of, is_past as passes, place_of, record_at};
 ghost use Rattle.pcapfile.specs.Reading.{Finds};
 
+use crate::limits::{HEADER_SIZE, LONGEST_RECORD};
 use crate::number::u32_of;
 use crate::{FileHead, FrameFault};
 
-/// The bytes of the header of a record.
-pub(crate) const HEADER_SIZE: usize = 16;
-/// The longest captured length of a record that is read, in bytes.
-const LONGEST: u32 = 262_144;
 /// The nanoseconds of a second, and of a microsecond.
 const SECOND: u64 = 1_000_000_000;
 
@@ -56,7 +53,7 @@ fn record_in(head: FileHead, most_frames: u32, most_bytes: u64, at: u64, rest: &
     ensures { Finds (record_at head (record { frames = most_frames; bytes = most_bytes }) at rest.now) at rest.now result }
 {
     let len = u32_of(head.big, &rest[8..]);
-    if len > LONGEST {
+    if len > LONGEST_RECORD {
         return Found::Fault(FrameFault::TooBig { at, len });
     }
     let size = HEADER_SIZE as u64 + u64::from(len);

@@ -1,8 +1,8 @@
 ghost use Rattle.std.specs.Prelude.{◌≡◌, ◌≢◌, ◌+◌, ◌*◌, ◌≤◌, ◌<◌, ◌⊎◌, ◌++◌, ◌^◌, [], IfOk, OnOk, OnErr, length, drop, vec_len};
 ghost use Rattle.std.specs.Vec.{vec_capacity};
 
-use crate::found::{Found, HEADER_SIZE, found_at};
-use crate::head::HEAD_SIZE;
+use crate::found::{Found, found_at};
+use crate::limits::{HEAD_SIZE, HEADER_SIZE};
 use crate::{FileHead, Frame, FrameBytes, Memory, Next, Tail};
 use std::alloc::Global;
 use std::marker::Model;

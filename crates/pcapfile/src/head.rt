@@ -1,10 +1,9 @@
 ghost use Rattle.std.specs.Prelude.{◌≡◌, ◌≤◌, OnOk, length};
 
+use crate::limits::HEAD_SIZE;
 use crate::number::{u16_of, u32_of};
 use crate::{HeadFault, Link};
 
-/// The bytes of the file header.
-pub(crate) const HEAD_SIZE: usize = 24;
 /// The major version that is read.
 const MAJOR: u16 = 2;
 

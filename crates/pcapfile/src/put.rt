@@ -4,9 +4,10 @@ ghost use Rattle.byteorder.specs.Endian.{little_bytes};
 ghost use Rattle.pcapfile.specs.Written.{written_head, written_frame};
 
 use crate::Memory;
+use crate::limits::{HEAD_SIZE, LONGEST_RECORD};
 
 /// Version 2.4, snap length 262,144, link type 1.
-const HEAD: [u8; 24] = [
+const HEAD: [u8; HEAD_SIZE] = [
     0xd4, 0xc3, 0xb2, 0xa1, 2, 0, 4, 0, 0, 0, 0, 0, 0, 0, 0, 0, 0, 0, 4, 0, 1, 0, 0, 0,
 ];
 
@@ -21,7 +22,7 @@ pub fn put_head(out: &mut Vec<u8>) -> Result<(), Memory>
 
 /// Appends a record of such a capture, all of whose bytes were captured; the fraction is in microseconds.
 pub fn put_frame(out: &mut Vec<u8>, seconds: u32, fraction: u32, bytes: &[u8]) -> Result<(), Memory>
-    requires { length bytes.now ≤ 262144 }
+    requires { length bytes.now ≤ LONGEST_RECORD }
     ensures ok { OnOk result (out.new.items ≡ out.old.items ++ written_frame seconds fraction bytes.now) }
     ensures err { OnErr result (out.new.items ≡ out.old.items) }
 {
@@ -44,7 +45,7 @@ fn append_number(out: &mut Vec<u8>, number: u32) -> Result<(), Memory>
 
 /// Appends the parts of a record, as many as there is memory for.
 fn append_frame(out: &mut Vec<u8>, seconds: u32, fraction: u32, bytes: &[u8]) -> Result<(), Memory>
-    requires { length bytes.now ≤ 262144 }
+    requires { length bytes.now ≤ LONGEST_RECORD }
     ensures ok { OnOk result (out.new.items ≡ out.old.items ++ written_frame seconds fraction bytes.now) }
     ensures err { OnErr result (take (vec_len out.old) out.new.items ≡ out.old.items) }
 {

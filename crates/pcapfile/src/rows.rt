@@ -4,6 +4,18 @@ ghost use Rattle.pcapfile.specs.declared.head_fault.HeadFault.TheVariants as fau
 ghost use Rattle.pcapfile.specs.Capture.{capture_of, Whole, Cut, TooBig, TooLong};
 ghost use Rattle.pcapfile.specs.Rows.{ample, little_head, little, newer_head, big_head, big, datagram_record, datagram_frame, too_big_header};
 
+use crate::{HEAD_SIZE, HEADER_SIZE, LONGEST_RECORD, MOST_BYTES, MOST_RECORDS, READ_SIZE};
+
+/// The sizes of the two headers; the longest record; the most records, 2^22, and the most bytes, 2^32; the size of a read.
+pub fn limits_are_the_stated_ones()
+    ensures head { HEAD_SIZE ≡ 24 }
+    ensures header { HEADER_SIZE ≡ 16 }
+    ensures longest { LONGEST_RECORD ≡ 262144 }
+    ensures records { MOST_RECORDS ≡ 4194304 }
+    ensures bytes { MOST_BYTES ≡ 4294967296 }
+    ensures read { READ_SIZE ≡ 65536 }
+{}
+
 /// A file header alone is a whole capture without records.
 pub fn a_head_alone_is_empty()
     ensures { capture_of ample little_head ≡ Ok (little, record { frames = []; end = Whole }) }
