@@ -1,29 +1,34 @@
-use Rattle.std.proofs.Common.{◌≡◌, ℕ, List, refl, ap, sym, ◌∙◌, subst, ◌⊎◌, inl, inr, Bool, true, false, cond}
+use Rattle.std.proofs.Common.{◌≡◌, ℕ, List, [], ◌∷◌, refl, ap, sym, ◌∙◌, subst, ◌⊎◌, inl, inr, Bool, true, false, cond}
 use Rattle.std.specs.Prelude.{Option, Some, None, IfSome, Result, Ok, Err}
 use Rattle.streamdefs.specs.Terms.{Terms}
 use Rattle.scap_world.specs.Files.{File, file_of, told_file, told_put}
+use Rattle.histbook.specs.Moves.{IsBudgetHistory}
+use Rattle.labtop.proofs.HistoryLemmas.{history_of}
 use Rattle.labtop.specs.declared.outcome.Outcome.{Outcome}
 use Rattle.scapconf.specs.declared.status.Status.{Status}
 use Rattle.scapconf.specs.declared.status.Status.TheVariants.{Done, Memory, Usage, Settings as Faulty, ReadFault, WriteFault, NotPcap, BadRecord, CutShort, TooLong, Unbuilt}
+use Rattle.labtop.specs.Kinds as kind
+use Rattle.labtop.specs.Kinds.{MayBe}
 use Rattle.labtop.specs.Names.{delivery_name, report_name}
 use Rattle.labtop.specs.Drill.{Verdict, Delivers, Refused, NotBuilt, Missing, asked_of, verdict_of}
 use Rattle.labtop.specs.Gives.{Gives}
 use Rattle.scapconf.specs.declared.settings.Settings.{Settings}
 use Rattle.labtop.specs.Settings.{is_built, terms_of}
-use Rattle.labtop.specs.Answers.{Allows, Completes, IsDone, IsPart, LeavesParts}
+use Rattle.labtop.specs.Answers.{Allows, Completes, InTurn, IsDone, IsPart, LeavesParts}
 
 parts_given : (m : Terms) (o : Outcome) (v : Verdict) (out : List ℕ) (old new : Option (List File)) → Gives m (Ok o) v
     → IsPart o.delivery.items (told_file old (delivery_name out)) (told_file new (delivery_name out))
-    → IsPart o.report.items (told_file old (report_name out)) (told_file new (report_name out)) → LeavesParts m v out old new
-parts_given m o (Delivers p) out old new g d r = inr (record {
+    → IsPart o.report.items (told_file old (report_name out)) (told_file new (report_name out)) → InTurn o.delivery.items out old new → LeavesParts m v out old new
+parts_given m o (Delivers p) out old new g d r u = inr (record {
   journal = o.journal;
   run = g.0;
   delivery = subst (λ (t : List ℕ). IsPart t (told_file old (delivery_name out)) (told_file new (delivery_name out))) g.1 d;
   report = subst (λ (t : List ℕ). IsPart t (told_file old (report_name out)) (told_file new (report_name out))) g.2 r;
+  turn = subst (λ (t : List ℕ). InTurn t out old new) g.1 u;
 })
-parts_given m o (Refused fault) out old new g d r = absurd g
-parts_given m o NotBuilt out old new g d r = absurd g
-parts_given m o Missing out old new g d r = absurd g
+parts_given m o (Refused fault) out old new g d r u = absurd g
+parts_given m o NotBuilt out old new g d r u = absurd g
+parts_given m o Missing out old new g d r u = absurd g
 
 done_given : (m : Terms) (o : Outcome) (v : Verdict) (out : List ℕ) (old new : Option (List File)) → Gives m (Ok o) v
     → new ≡ told_put (report_name out) o.report.items (told_put (delivery_name out) o.delivery.items old) → IsDone m v out o.journal old new
@@ -32,31 +37,35 @@ done_given m o (Refused fault) out old new g e = absurd g
 done_given m o NotBuilt out old new g e = absurd g
 done_given m o Missing out old new g e = absurd g
 
+-- the journal of an outcome
+history_given : (t : Terms) (o : Outcome) (v : Verdict) → Gives t (Ok o) v → IsBudgetHistory t.marks.limit o.journal
+history_given t o (Delivers c) h = history_of t c o.journal h.0
+history_given t o (Refused fault) h = absurd h
+history_given t o NotBuilt h = absurd h
+history_given t o Missing h = absurd h
+
+pub has_history : (p : Settings) (o : Outcome) (front : List ℕ) → Gives (terms_of p) (Ok o) (verdict_of p front) → IsBudgetHistory p.set.marks.limit o.journal
+has_history p o front h = history_given (terms_of p) o (verdict_of p front) h
+
 -- a refusal in place of an outcome
 refused_by : (t : Terms) (s : Status) (v : Verdict) → Gives t (Err s) v → Allows v s × Completes v s
-refused_by t Done v h = absurd h
-refused_by t Memory v h = (tt, memory v)
+refused_by t s v h = (h.0, completes v s h.1 h.0)
   where
-    memory : (v : Verdict) → Completes v Memory
-    memory (Delivers c) = inr refl
-    memory (Refused fault) = tt
-    memory NotBuilt = tt
-    memory Missing = tt
-refused_by t Usage v h = absurd h
-refused_by t (Faulty line kind) v h = absurd h
-refused_by t (BadRecord at len) v h = absurd h
-refused_by t (CutShort bytes) v h = absurd h
-refused_by t TooLong v h = absurd h
-refused_by t ReadFault v h = absurd h
-refused_by t WriteFault v h = absurd h
-refused_by t (NotPcap kind) (Delivers c) h = absurd h
-refused_by t (NotPcap kind) (Refused fault) h = (h, tt)
-refused_by t (NotPcap kind) NotBuilt h = absurd h
-refused_by t (NotPcap kind) Missing h = absurd h
-refused_by t Unbuilt (Delivers c) h = absurd h
-refused_by t Unbuilt (Refused fault) h = absurd h
-refused_by t Unbuilt NotBuilt h = (tt, tt)
-refused_by t Unbuilt Missing h = absurd h
+    completes : (v : Verdict) (s : Status) → MayBe (kind.memory ∷ kind.not_pcap ∷ kind.unbuilt ∷ []) s → Allows v s → Completes v s
+    completes (Refused fault) s k a = tt
+    completes NotBuilt s k a = tt
+    completes Missing s k a = tt
+    completes (Delivers c) Memory k a = tt
+    completes (Delivers c) (NotPcap fault) k a = absurd a
+    completes (Delivers c) Unbuilt k a = absurd a
+    completes (Delivers c) Done k a = absurd k
+    completes (Delivers c) Usage k a = absurd k
+    completes (Delivers c) (Faulty line fault) k a = absurd k
+    completes (Delivers c) ReadFault k a = absurd k
+    completes (Delivers c) WriteFault k a = absurd k
+    completes (Delivers c) (BadRecord at len) k a = absurd k
+    completes (Delivers c) (CutShort bytes) k a = absurd k
+    completes (Delivers c) TooLong k a = absurd k
 
 -- an outcome that is written, or not
 written_by : (t : Terms) (o : Outcome) (s : Status) (v : Verdict) → Gives t (Ok o) v → (s ≡ Done) ⊎ ((s ≡ Memory) ⊎ (s ≡ WriteFault)) → Allows v s
@@ -108,10 +117,11 @@ written p files name o s end front e h w =
 pub parts_left : (p : Settings) (files : Option (List File)) (name : List ℕ) (o : Outcome) (front out : List ℕ) (old mid new : Option (List File)) → mid ≡ old → HasRead p files name (Ok o) front
     → IsPart o.delivery.items (told_file mid (delivery_name out)) (told_file new (delivery_name out))
     → IsPart o.report.items (told_file mid (report_name out)) (told_file new (report_name out))
+    → InTurn o.delivery.items out mid new
     → IfSome files (λ fs. LeavesParts (terms_of p) (asked_of p (file_of fs name)) out old new)
-parts_left p files name o front out old mid new e h d r =
+parts_left p files name o front out old mid new e h d r u =
     of_file (λ (v : Verdict). LeavesParts (terms_of p) v out old new) p files name (Ok o) front h
-    (subst (λ (x : Option (List File)). LeavesParts (terms_of p) (verdict_of p front) out x new) e (parts_given (terms_of p) o (verdict_of p front) out mid new h.gives d r))
+    (subst (λ (x : Option (List File)). LeavesParts (terms_of p) (verdict_of p front) out x new) e (parts_given (terms_of p) o (verdict_of p front) out mid new h.gives d r u))
 
 -- the whole texts
 pub all_done : (p : Settings) (files : Option (List File)) (name : List ℕ) (o : Outcome) (front out : List ℕ) (old mid new : Option (List File)) → mid ≡ old → HasRead p files name (Ok o) front

@@ -5,6 +5,7 @@ pub mod HeadLemmas
 pub mod IntakeLemmas
 pub mod KindLemmas
 pub mod ReadLemmas
+pub mod HistoryLemmas
 pub mod VerdictLemmas
 pub mod WordsLemmas
 pub mod OutcomeLemmas

@@ -6,16 +6,15 @@ use Rattle.capfilter.specs.Faults.{Reads}
 use Rattle.scap_world.specs.Files.{File, file_of}
 use Rattle.scapconf.specs.declared.status.Status.{Status}
 use Rattle.scapconf.specs.declared.status.Status.TheVariants.{Done, Memory, Usage, Settings as Faulty, ReadFault, WriteFault, NotPcap, BadRecord, CutShort, TooLong, Unbuilt}
-use Rattle.labtop.specs.Answers.{IsBefore}
-use Rattle.labtop.specs.MatchAnswers.{CompletesMatched, IsMatchAnswer, IsWritten, LeavesMatched, RefusesFilter, no_filter}
-use Rattle.labtop.specs.Matching.{Matched, Writes, Refuses, Unread, matched_of, AllowsMatch, CompletesMatch, IsForeign, IsUnwritten, LeavesMatch, WritesMatch}
+use Rattle.labtop.specs.MatchAnswers.{CompletesMatched, IsMatchAnswer, IsOfMatch, IsWritten, LeavesMatched, RefusesFilter, no_filter}
+use Rattle.labtop.specs.Matching.{Matched, Writes, Refuses, Unread, matched_of, AllowsMatch, CompletesMatch, IsForeign, LeavesMatch, WritesMatch}
 
 answer_at : (e : Expr) (files : List File) (filter capture : List ℕ) (s : Status) → Reads filter e → (IsForeign s → ⊥) → AllowsMatch (matched_of e (file_of files capture)) s
     → IsMatchAnswer files filter capture s
 answer_at e files filter capture Memory r f a = tt
 answer_at e files filter capture ReadFault r f a = tt
-answer_at e files filter capture Usage r f a = f tt
-answer_at e files filter capture Unbuilt r f a = f tt
+answer_at e files filter capture Usage r f a = absurd (f tt)
+answer_at e files filter capture Unbuilt r f a = absurd (f tt)
 answer_at e files filter capture (Faulty line kind) r f a = absurd (f tt)
 answer_at e files filter capture Done r f a = (e, r, a)
 answer_at e files filter capture WriteFault r f a = (e, r, a)
@@ -23,6 +22,23 @@ answer_at e files filter capture (NotPcap kind) r f a = (e, r, a)
 answer_at e files filter capture (BadRecord at len) r f a = (e, r, a)
 answer_at e files filter capture (CutShort bytes) r f a = (e, r, a)
 answer_at e files filter capture TooLong r f a = (e, r, a)
+
+pub kinds_of_match : (e : Expr) (filter : List ℕ) (s : Status) → Reads filter e → (IsForeign s → ⊥) → IsOfMatch filter s
+kinds_of_match e filter Memory r f = tt
+kinds_of_match e filter Usage r f = absurd (f tt)
+kinds_of_match e filter Unbuilt r f = absurd (f tt)
+kinds_of_match e filter (Faulty line kind) r f = absurd (f tt)
+kinds_of_match e filter ReadFault r f = (e, r, tt)
+kinds_of_match e filter Done r f = (e, r, tt)
+kinds_of_match e filter WriteFault r f = (e, r, tt)
+kinds_of_match e filter (NotPcap kind) r f = (e, r, tt)
+kinds_of_match e filter (BadRecord at len) r f = (e, r, tt)
+kinds_of_match e filter (CutShort bytes) r f = (e, r, tt)
+kinds_of_match e filter TooLong r f = (e, r, tt)
+
+pub kinds_refused : (filter : List ℕ) (s : Status) → RefusesFilter filter s → IsOfMatch filter s
+kinds_refused filter s (inl e) = subst (IsOfMatch filter) (sym e) tt
+kinds_refused filter s (inr e) = subst (IsOfMatch filter) (sym e.0) (refl, refl, e.1)
 
 pub match_answer : (e : Expr) (files : Option (List File)) (filter capture : List ℕ) (s : Status) → Reads filter e → (IsForeign s → ⊥)
     → IfSome files (λ fs. AllowsMatch (matched_of e (file_of fs capture)) s) → IfSome files (λ fs. IsMatchAnswer fs filter capture s)
@@ -57,20 +73,6 @@ complete_memory Unread s e = e
 pub match_refused : (files : Option (List File)) (filter capture : List ℕ) (s : Status) → ((f : Expr) → Reads filter f → s ≡ Memory) → IfSome files (λ fs. CompletesMatched fs filter capture s)
 match_refused None filter capture s only = tt
 match_refused (Some fs) filter capture s only = λ f r. complete_memory (matched_of f (file_of fs capture)) s (only f r)
-
--- what is unwritten behind a match is so behind a command
-pub unwritten : (s : Status) → IsBefore s → IsUnwritten s
-unwritten Done h = absurd h
-unwritten Memory h = absurd h
-unwritten Usage h = tt
-unwritten (Faulty line kind) h = tt
-unwritten ReadFault h = tt
-unwritten WriteFault h = absurd h
-unwritten (NotPcap kind) h = tt
-unwritten (BadRecord at len) h = absurd h
-unwritten (CutShort bytes) h = absurd h
-unwritten TooLong h = absurd h
-unwritten Unbuilt h = tt
 
 -- a refusal of the filter
 

@@ -14,13 +14,13 @@ use Rattle.scapconf.specs.declared.status.Status.{Status}
 use Rattle.scapconf.specs.declared.status.Status.TheVariants as status
 use Rattle.labtop.specs.declared.matching.Matches.{Matches}
 use Rattle.labtop.specs.declared.matching.Matching.{Matching}
-use Rattle.labtop.specs.Answers.{IsPart}
+use Rattle.labtop.specs.Answers.{IsBefore, IsPart}
 use Rattle.labtop.specs.Drill.{limits}
 use Rattle.labtop.specs.Matched.{HasAll, HasRead, HasReadOn, IsMatched, end_of}
-use Rattle.labtop.specs.Matching.{Matched, Writes, Refuses, Unread, AllowsMatch, CompletesMatch, IsForeign, IsUnwritten, LeavesMatch, WritesMatch, matched_by, matched_in, matched_of, status_of_end}
+use Rattle.labtop.specs.Matching.{Matched, Writes, Refuses, Unread, AllowsMatch, CompletesMatch, IsForeign, LeavesMatch, WritesMatch, matched_by, matched_in, matched_of, status_of_end}
 use Rattle.labtop.specs.Names.{match_name}
 use Rattle.labtop.proofs.HeadLemmas.{head_of-append}
-use Rattle.labtop.proofs.ReadLemmas.{prefixed-moved}
+use Rattle.labtop.proofs.ReadLemmas.{head_of-front, prefixed-moved}
 
 pub if_some : {A : Type 0} {P Q : A → Type 0} (o : Option A) → ((a : A) → P a → Q a) → IfSome o P → IfSome o Q
 if_some None f h = tt
@@ -82,10 +82,6 @@ read_enough filter head fed more left (Some bytes) found e h =
 pub behind_front : (l : List ℕ) → take (length l - 24) (drop 24 l) ≡ drop 24 l
 behind_front l = take_all (length l - 24) (drop 24 l) (omega (arith, length-drop 24 l))
 
-head_of-front : (front rest : List ℕ) → (24 ≤ length front) ⊎ (rest ≡ []) → head_of (front ++ rest) ≡ head_of front
-head_of-front front rest (inl whole) = head_of-append front rest whole
-head_of-front front rest (inr none) = ap (λ (r : List ℕ). head_of (front ++ r)) none ∙ ap head_of (append-nil front)
-
 -- a file with a head and its matches
 matched_whole : (filter : Expr) (file : List ℕ) (head : FileHead) (found : Matches) → head_of file ≡ Ok head → HasAll filter head (drop 24 file) found → IsMatched (Ok found) (matched_in filter file)
 unfolding matched_in
@@ -136,10 +132,10 @@ of_shelf filter found (Some fs) now name left same e is h =
 -- Answers.
 
 own_end : (e : End) (text : List ℕ) (end : Status) → status_of_end e ≡ end → AllowsMatch (Writes text end) (status_of_end e)
-own_end Whole text end h = h
-own_end (Cut n) text end h = h
-own_end (TooBig at len) text end h = h
-own_end TooLong text end h = h
+own_end Whole text end h = (tt, h)
+own_end (Cut n) text end h = (tt, h)
+own_end (TooBig at len) text end h = (tt, h)
+own_end TooLong text end h = (tt, h)
 
 -- the text was written
 pub allowed_end : (found : Matches) (s : Status) (v : Matched) → s ≡ status_of_end (end_of found.end) → IsMatched (Ok found) v → AllowsMatch v s
@@ -164,16 +160,16 @@ allowed_refused kind (Refuses fault) h = h
 allowed_refused kind Unread h = absurd h
 
 -- an end is none of the other statuses
-is_end : (e : End) → (IsForeign (status_of_end e) → ⊥) × (IsUnwritten (status_of_end e) → ⊥) × (status_of_end e ≡ status.ReadFault → ⊥) × (status_of_end e ≡ status.WriteFault → ⊥)
+is_end : (e : End) → (IsForeign (status_of_end e) → ⊥) × (IsBefore (status_of_end e) → ⊥) × (status_of_end e ≡ status.ReadFault → ⊥) × (status_of_end e ≡ status.WriteFault → ⊥)
 is_end Whole = (λ h. h, λ h. h, λ h. cc, λ h. cc)
 is_end (Cut n) = (λ h. h, λ h. h, λ h. cc, λ h. cc)
 is_end (TooBig at len) = (λ h. h, λ h. h, λ h. cc, λ h. cc)
 is_end TooLong = (λ h. h, λ h. h, λ h. cc, λ h. cc)
 
 pub end_is : (e : End) (s : Status) → s ≡ status_of_end e
-    → (IsForeign s → ⊥) × (IsUnwritten s → ⊥) × (s ≡ status.ReadFault → ⊥) × (s ≡ status.WriteFault → ⊥)
+    → (IsForeign s → ⊥) × (IsBefore s → ⊥) × (s ≡ status.ReadFault → ⊥) × (s ≡ status.WriteFault → ⊥)
 end_is e s same =
-    subst (λ (x : Status). (IsForeign x → ⊥) × (IsUnwritten x → ⊥) × (x ≡ status.ReadFault → ⊥) × (x ≡ status.WriteFault → ⊥)) (sym same) (is_end e)
+    subst (λ (x : Status). (IsForeign x → ⊥) × (IsBefore x → ⊥) × (x ≡ status.ReadFault → ⊥) × (x ≡ status.WriteFault → ⊥)) (sym same) (is_end e)
 
 -- where no fault was counted
 pub completes : (v : Matched) (s : Status) (R W : Type 0) → (s ≡ status.ReadFault → R) → (s ≡ status.WriteFault → W) → (R → ⊥) → (W → ⊥)
@@ -183,24 +179,30 @@ completes (Refuses fault) status.Memory R W r w nr nw h = inr refl
 completes Unread status.Memory R W r w nr nw h = refl
 completes v status.ReadFault R W r w nr nw h = absurd (nr (r refl))
 completes v status.WriteFault R W r w nr nw h = absurd (nw (w refl))
-completes v status.Usage R W r w nr nw h = absurd h
-completes v (status.Settings line kind) R W r w nr nw h = absurd h
-completes v status.Unbuilt R W r w nr nw h = absurd h
-completes (Writes text end) status.Done R W r w nr nw h = inl h
-completes (Writes text end) (status.BadRecord at len) R W r w nr nw h = inl h
-completes (Writes text end) (status.CutShort bytes) R W r w nr nw h = inl h
-completes (Writes text end) status.TooLong R W r w nr nw h = inl h
-completes (Writes text end) (status.NotPcap kind) R W r w nr nw h = absurd h
+completes (Writes text end) status.Usage R W r w nr nw h = absurd h.0
+completes (Writes text end) (status.Settings line fault) R W r w nr nw h = absurd h.0
+completes (Writes text end) status.Unbuilt R W r w nr nw h = absurd h.0
+completes (Writes text end) (status.NotPcap fault) R W r w nr nw h = absurd h.0
+completes (Writes text end) status.Done R W r w nr nw h = inl h.1
+completes (Writes text end) (status.BadRecord at len) R W r w nr nw h = inl h.1
+completes (Writes text end) (status.CutShort bytes) R W r w nr nw h = inl h.1
+completes (Writes text end) status.TooLong R W r w nr nw h = inl h.1
+completes (Refuses fault) (status.NotPcap kind) R W r w nr nw h = inl (ap status.NotPcap h)
+completes (Refuses fault) status.Usage R W r w nr nw h = absurd h
+completes (Refuses fault) (status.Settings line kind) R W r w nr nw h = absurd h
+completes (Refuses fault) status.Unbuilt R W r w nr nw h = absurd h
 completes (Refuses fault) status.Done R W r w nr nw h = absurd h
 completes (Refuses fault) (status.BadRecord at len) R W r w nr nw h = absurd h
 completes (Refuses fault) (status.CutShort bytes) R W r w nr nw h = absurd h
 completes (Refuses fault) status.TooLong R W r w nr nw h = absurd h
-completes (Refuses fault) (status.NotPcap kind) R W r w nr nw h = inl (ap status.NotPcap h)
+completes Unread status.Usage R W r w nr nw h = absurd h
+completes Unread (status.Settings line kind) R W r w nr nw h = absurd h
+completes Unread status.Unbuilt R W r w nr nw h = absurd h
+completes Unread (status.NotPcap kind) R W r w nr nw h = absurd h
 completes Unread status.Done R W r w nr nw h = absurd h
 completes Unread (status.BadRecord at len) R W r w nr nw h = absurd h
 completes Unread (status.CutShort bytes) R W r w nr nw h = absurd h
 completes Unread status.TooLong R W r w nr nw h = absurd h
-completes Unread (status.NotPcap kind) R W r w nr nw h = absurd h
 
 -- Files.
 

@@ -24,7 +24,7 @@ use Rattle.streamdefs.specs.Lists.{Each, total}
 use Rattle.streamdefs.specs.Lawful.{Run}
 use Rattle.streamdefs.specs.Order.{all_looks, all_moves}
 use Rattle.streamdefs.specs.Packet.{Packet, is_tcp}
-use Rattle.streamdefs.specs.Report.{budget_line, head_lines, records_line, report_text, status_line}
+use Rattle.streamdefs.specs.Report.{budget_line, bytes_line, head_lines, history_line, records_line, report_text, status_line}
 use Rattle.streamdefs.specs.Terms.{Terms}
 use Rattle.streamdefs.specs.Totals.{peak, refused}
 use Rattle.labtop.specs.declared.intake.Intake.{Intake}
@@ -34,7 +34,7 @@ use Rattle.labtop.specs.Drill.{Delivers, NotBuilt, is_long, of_captured}
 use Rattle.labtop.specs.Found.{captured_by}
 use Rattle.labtop.specs.Gives.{Gives, HasTexts}
 use Rattle.labtop.specs.Headline.{done, report_for, run_in}
-use Rattle.labtop.specs.ReportLines.{lines_of, lines_with, numbers_line, over_all, totals_line}
+use Rattle.labtop.specs.ReportLines.{lines_of, lines_with, over_all}
 use Rattle.labtop.specs.Scapconf.{Fate, Taken, Filtered, Passed, Captured, captured, fate_of, fates, fates_from, first_moment, has_segment, holds, last_clock, packet_in, packets_of}
 
 -- The report.
@@ -47,16 +47,11 @@ all_sums : (f : Sums → ℕ) (table : List Conversation) → total (over_both f
 all_sums f [] = refl
 all_sums f (c ∷ table) = ap (λ (n : ℕ). over_both f (row_of false c) + n) (all_sums f table)
 
-totals_are : (table : List Conversation) → rows_line (rows_of false table) ≡ totals_line (over_all (λ s. s.payload) table) (over_all (λ s. s.delivered) table) (over_all (λ s. s.shed) table)
-unfolding rows_line totals_line
-totals_are table = λ i.
-    codes "bytes payload " ++ decimal (all_sums (λ (s : Sums). s.payload) table i) ++ codes " delivered " ++ decimal (all_sums (λ (s : Sums). s.delivered) table i)
-    ++ codes " duplicate " ++ decimal 0 ++ codes " late " ++ decimal 0
-    ++ codes " cut " ++ decimal 0 ++ codes " shed " ++ decimal (all_sums (λ (s : Sums). s.shed) table i) ++ codes "\n"
+totals_are : (table : List Conversation) → rows_line (rows_of false table) ≡ bytes_line (over_all (λ s. s.payload) table) (over_all (λ s. s.delivered) table) 0 0 0 (over_all (λ s. s.shed) table)
+totals_are table = λ i. bytes_line (all_sums (λ (s : Sums). s.payload) table i) (all_sums (λ (s : Sums). s.delivered) table i) 0 0 0 (all_sums (λ (s : Sums). s.shed) table i)
 
-numbers_are : (run : Run) (stamps p r : ℕ) → length (all_moves run) ≡ stamps → peak (all_moves run) ≡ p → refused (all_looks run) ≡ r → budget_line (all_moves run) (all_looks run) ≡ numbers_line stamps p r
-unfolding budget_line numbers_line
-numbers_are run stamps p r a b c = λ i. codes "budget stamps " ++ decimal (a i) ++ codes " peak " ++ decimal (b i) ++ codes " refused " ++ decimal (c i) ++ codes "\n"
+numbers_are : (run : Run) (stamps p r : ℕ) → length (all_moves run) ≡ stamps → peak (all_moves run) ≡ p → refused (all_looks run) ≡ r → history_line (all_moves run) (all_looks run) ≡ budget_line stamps p r
+numbers_are run stamps p r a b c = λ i. budget_line (a i) (b i) (c i)
 
 flat : (h j a b c d e : List ℕ) → h ++ j ++ (a ++ b ++ c ++ d ++ e) ≡ h ++ j ++ a ++ b ++ c ++ d ++ e
 flat h j a b c d e = simp append_assoc
@@ -69,8 +64,8 @@ report_is t c journal text table stamps p r h =
     (λ i. head_lines ((length-map journal.cores (map (line_of c.packets)) ∙ h.one_core) i) (h.one_worker i) ++ journal_text journal ++ h.lines c.counts done i)
     ∙ (λ i. head_lines 1 1 ++ journal_text journal ++ (all_lines table i ++ records_line c.counts ++ totals_are table i
     ++ numbers_are (run_in t c journal) stamps p r h.stamps_are h.peak_is h.refused_are i ++ status_line done))
-    ∙ flat (head_lines 1 1) (journal_text journal) (flat_map lines_of table) (records_line c.counts) (totals_line (over_all (λ s. s.payload) table) (over_all (λ s. s.delivered) table) (over_all (λ s. s.shed) table))
-    (numbers_line stamps p r) (status_line done)
+    ∙ flat (head_lines 1 1) (journal_text journal) (flat_map lines_of table) (records_line c.counts) (bytes_line (over_all (λ s. s.payload) table) (over_all (λ s. s.delivered) table) 0 0 0 (over_all (λ s. s.shed) table))
+    (budget_line stamps p r) (status_line done)
 
 -- the texts of a replay
 pub has_texts : (t : Terms) (c : Captured) (o : Outcome) (text : List ℕ) (table : List Conversation) (stamps p r : ℕ)

@@ -15,41 +15,41 @@ use Rattle.scapconf.specs.Faults.{IsFault}
 use Rattle.scapconf.specs.Parser.{IsMemoryOrFault}
 use Rattle.scapconf.specs.Says.{Reads}
 use Rattle.scapconf.proofs.LawLemmas.{one_meaning, read_or_refused}
-use Rattle.labtop.specs.declared.settings_file.TheConstants.{MOST_TEXT}
+use Rattle.scapconf.specs.declared.limits.TheConstants.{LONGEST_TEXT}
 use Rattle.labtop.specs.Answers.{RefusesSettings, RefusesText}
-use Rattle.labtop.specs.Settings.{GoesBy, HasFault}
+use Rattle.labtop.specs.Settings.{GoesBy, HasFault, MayGoBy}
 use Rattle.labtop.proofs.ReadLemmas.{none_there}
 
 -- a text with more bytes than are read is too long
-read_whole : (text front : List ℕ) (s : Settings) → front ≡ take (MOST_TEXT + 1) text → Reads front s → Reads text s
-read_whole text front s e h = elim (cases_lt MOST_TEXT (length text)) [
-  | inl long ↦ absurd (omega (arith, h.short, ap length e, length-take (MOST_TEXT + 1) text))
-  | inr short ↦ subst (λ (t : List ℕ). Reads t s) (e ∙ take_all (MOST_TEXT + 1) text (omega arith)) h
+read_whole : (text front : List ℕ) (s : Settings) → front ≡ take (LONGEST_TEXT + 1) text → Reads front s → Reads text s
+read_whole text front s e h = elim (cases_lt LONGEST_TEXT (length text)) [
+  | inl long ↦ absurd (omega (arith, h.short, ap length e, length-take (LONGEST_TEXT + 1) text))
+  | inr short ↦ subst (λ (t : List ℕ). Reads t s) (e ∙ take_all (LONGEST_TEXT + 1) text (omega arith)) h
 ]
 
-fault_whole : (text front : List ℕ) (n : ℕ) (k : SettingsKind) → front ≡ take (MOST_TEXT + 1) text → IsFault front n k → IsFault text n k
-fault_whole text front n k e (inl long) = inl (omega (arith, long.0, ap length e, length-take (MOST_TEXT + 1) text), long.1, long.2)
-fault_whole text front n k e (inr short) = subst (λ (t : List ℕ). IsFault t n k) (e ∙ take_all (MOST_TEXT + 1) text (omega (arith, short.0, ap length e, length-take (MOST_TEXT + 1) text))) (inr short)
+fault_whole : (text front : List ℕ) (n : ℕ) (k : SettingsKind) → front ≡ take (LONGEST_TEXT + 1) text → IsFault front n k → IsFault text n k
+fault_whole text front n k e (inl long) = inl (omega (arith, long.0, ap length e, length-take (LONGEST_TEXT + 1) text), long.1, long.2)
+fault_whole text front n k e (inr short) = subst (λ (t : List ℕ). IsFault t n k) (e ∙ take_all (LONGEST_TEXT + 1) text (omega (arith, short.0, ap length e, length-take (LONGEST_TEXT + 1) text))) (inr short)
 
-goes_at : (o : Option (List ℕ)) (front : List ℕ) (s : Settings) → IsSome o → IfSome o (λ text. front ≡ take (MOST_TEXT + 1) text) → Reads front s → IsSomeAnd o (λ text. Reads text s)
+goes_at : (o : Option (List ℕ)) (front : List ℕ) (s : Settings) → IsSome o → IfSome o (λ text. front ≡ take (LONGEST_TEXT + 1) text) → Reads front s → IsSomeAnd o (λ text. Reads text s)
 goes_at None front s there e h = none_there there
 goes_at (Some text) front s there e h = read_whole text front s e h
 
-fault_at : (o : Option (List ℕ)) (front : List ℕ) (n : ℕ) (k : SettingsKind) → IsSome o → IfSome o (λ text. front ≡ take (MOST_TEXT + 1) text) → IsFault front n k → IsSomeAnd o (λ text. IsFault text n k)
+fault_at : (o : Option (List ℕ)) (front : List ℕ) (n : ℕ) (k : SettingsKind) → IsSome o → IfSome o (λ text. front ≡ take (LONGEST_TEXT + 1) text) → IsFault front n k → IsSomeAnd o (λ text. IsFault text n k)
 fault_at None front n k there e h = none_there there
 fault_at (Some text) front n k there e h = fault_whole text front n k e h
 
-goes_by_read : (files : Option (List File)) (name front : List ℕ) (s : Settings) → IsThere files name → IfSome (told_file files name) (λ text. front ≡ take (MOST_TEXT + 1) text)
+goes_by_read : (files : Option (List File)) (name front : List ℕ) (s : Settings) → IsThere files name → IfSome (told_file files name) (λ text. front ≡ take (LONGEST_TEXT + 1) text)
     → Reads front s → IfSome files (λ fs. GoesBy fs (Some name) s)
 goes_by_read None name front s there e h = tt
 goes_by_read (Some fs) name front s there e h = goes_at (file_of fs name) front s there e h
 
-refused_at : (files : Option (List File)) (name front : List ℕ) (n : ℕ) (k : SettingsKind) → IsThere files name → IfSome (told_file files name) (λ text. front ≡ take (MOST_TEXT + 1) text)
+refused_at : (files : Option (List File)) (name front : List ℕ) (n : ℕ) (k : SettingsKind) → IsThere files name → IfSome (told_file files name) (λ text. front ≡ take (LONGEST_TEXT + 1) text)
     → IsFault front n k → IfSome files (λ fs. HasFault fs (Some name) n k)
 refused_at None name front n k there e h = tt
 refused_at (Some fs) name front n k there e h = fault_at (file_of fs name) front n k there e h
 
-refused_by_read : (files : Option (List File)) (name front : List ℕ) (status : Status) → IsThere files name → IfSome (told_file files name) (λ text. front ≡ take (MOST_TEXT + 1) text)
+refused_by_read : (files : Option (List File)) (name front : List ℕ) (status : Status) → IsThere files name → IfSome (told_file files name) (λ text. front ≡ take (LONGEST_TEXT + 1) text)
     → RefusesText front status → RefusesSettings files (Some name) status
 refused_by_read files name front Memory there e h = tt
 refused_by_read files name front (Faulty n k) there e h = refused_at files name front n k there e h
@@ -63,12 +63,16 @@ refused_by_read files name front (CutShort bytes) there e h = absurd h
 refused_by_read files name front TooLong there e h = absurd h
 refused_by_read files name front Unbuilt there e h = absurd h
 
-pub goes_read : (files : Option (List File)) (name front : List ℕ) (r : Result Settings Status) → IsThere files name → IfSome (told_file files name) (λ text. front ≡ take (MOST_TEXT + 1) text)
+pub goes_read : (files : Option (List File)) (name front : List ℕ) (r : Result Settings Status) → IsThere files name → IfSome (told_file files name) (λ text. front ≡ take (LONGEST_TEXT + 1) text)
     → IfOk r (Reads front) → IfOk r (λ s. IfSome files (λ fs. GoesBy fs (Some name) s))
 goes_read files name front (Ok s) there e h = goes_by_read files name front s there e h
 goes_read files name front (Err status) there e h = tt
 
-pub refused_read : (files : Option (List File)) (name front : List ℕ) (r : Result Settings Status) → IsThere files name → IfSome (told_file files name) (λ text. front ≡ take (MOST_TEXT + 1) text)
+pub may_read : (name front : List ℕ) (r : Result Settings Status) → IfOk r (Reads front) → IfOk r (λ s. MayGoBy (Some name) s)
+may_read name front (Ok s) h = (front, h)
+may_read name front (Err status) h = tt
+
+pub refused_read : (files : Option (List File)) (name front : List ℕ) (r : Result Settings Status) → IsThere files name → IfSome (told_file files name) (λ text. front ≡ take (LONGEST_TEXT + 1) text)
     → IfErr r (RefusesText front) → IfErr r (RefusesSettings files (Some name))
 refused_read files name front (Ok s) there e h = tt
 refused_read files name front (Err status) there e h = refused_by_read files name front status there e h

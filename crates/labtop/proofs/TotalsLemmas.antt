@@ -6,11 +6,11 @@ use Rattle.datagrams.specs.Sound.{IsEven, came_bytes}
 use Rattle.datagrams.specs.Sums.{Sums, over_both}
 use Rattle.histbook.specs.declared.journal.Journal.{Journal}
 use Rattle.streamdefs.specs.Lists.{Each, total}
-use Rattle.streamdefs.specs.Report.{RecordCounts, head_lines, records_line, status_line}
+use Rattle.streamdefs.specs.Report.{RecordCounts, budget_line, bytes_line, head_lines, records_line, status_line}
 use Rattle.histbook.specs.JournalText.{journal_text}
 use Rattle.std.specs.Prelude.{flat_map}
 use Rattle.labtop.specs.Headline.{done}
-use Rattle.labtop.specs.ReportLines.{lines_of, lines_with, numbers_line, over_all, totals_line}
+use Rattle.labtop.specs.ReportLines.{lines_of, lines_with, over_all}
 
 total_more : {X : Type 0} (f : X → ℕ) (xs : List X) (i : ℕ) (d : X) → i < length xs → total f (take (suc i) xs) ≡ total f (take i xs) + f (get_or xs i d)
 total_more f [] i d l = absurd (omega arith)
@@ -48,8 +48,8 @@ fits_more f w cs i c h l e = omega (arith, over_more f cs i c l e, all_within f 
 pub report_joined : (journal : Journal) (table : List Conversation) (records : RecordCounts) (stamps peak refused payload delivered shed : ℕ) (a b c d e f g h : List ℕ)
     → payload ≡ over_all (λ s. s.payload) table → delivered ≡ over_all (λ s. s.delivered) table → shed ≡ over_all (λ s. s.shed) table
     → a ≡ [] → b ≡ a ++ head_lines 1 1 → c ≡ b ++ journal_text journal → d ≡ c ++ flat_map lines_of table → e ≡ d ++ records_line records
-    → f ≡ e ++ totals_line payload delivered shed → g ≡ f ++ numbers_line stamps peak refused → h ≡ g ++ status_line done
+    → f ≡ e ++ bytes_line payload delivered 0 0 0 shed → g ≡ f ++ budget_line stamps peak refused → h ≡ g ++ status_line done
     → h ≡ lines_with journal table records stamps peak refused done
 unfolding lines_with
 report_joined journal table records stamps peak refused payload delivered shed a b c d e f g h x y z p q r s t u v w =
-    w ∙ (λ i. (v ∙ (λ i. (u ∙ (λ i. (t ∙ (λ i. (s ∙ (λ i. (r ∙ (λ i. (q ∙ (λ i. p i ++ head_lines 1 1)) i ++ journal_text journal)) i ++ flat_map lines_of table)) i ++ records_line records)) i ++ totals_line (x i) (y i) (z i))) i ++ numbers_line stamps peak refused)) i ++ status_line done)
+    w ∙ (λ i. (v ∙ (λ i. (u ∙ (λ i. (t ∙ (λ i. (s ∙ (λ i. (r ∙ (λ i. (q ∙ (λ i. p i ++ head_lines 1 1)) i ++ journal_text journal)) i ++ flat_map lines_of table)) i ++ records_line records)) i ++ bytes_line (x i) (y i) 0 0 0 (z i))) i ++ budget_line stamps peak refused)) i ++ status_line done)

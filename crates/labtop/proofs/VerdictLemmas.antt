@@ -9,7 +9,7 @@ use Rattle.pcapfile.specs.declared.head_fault.HeadFault.{HeadFault}
 use Rattle.pcapfile.specs.declared.frame.Frame.{Frame}
 use Rattle.pcapfile.specs.Capture.{records_from, behind_head}
 use Rattle.pcapfile.specs.Head.{head_of}
-use Rattle.labtop.specs.declared.capture.TheConstants.{MOST_BUILT}
+use Rattle.labtop.specs.declared.limits.TheConstants.{MOST_BUILT}
 use Rattle.labtop.specs.declared.outcome.Outcome.{Outcome}
 use Rattle.scapconf.specs.declared.status.Status.{Status}
 use Rattle.labtop.specs.Drill.{Verdict, Refused, NotBuilt, limits, of_capture, of_frames, whole_of, verdict_of}

@@ -4,7 +4,8 @@ use Rattle.pcapfile.specs.declared.head_fault.HeadFault.{HeadFault}
 use Rattle.pcapfile.specs.declared.link.Link.{Link}
 use Rattle.pcapfile.specs.declared.frame.Frame.{Frame}
 use Rattle.pcapfile.specs.Capture.{Limits, End, Whole, Cut, TooBig, TooLong, Records, capture_of}
-use Rattle.labtop.specs.declared.capture.TheConstants.{MOST_FRAMES, MOST_BYTES, MOST_BUILT}
+use Rattle.pcapfile.specs.declared.limits.TheConstants.{MOST_BYTES, MOST_RECORDS}
+use Rattle.labtop.specs.declared.limits.TheConstants.{MOST_BUILT}
 use Rattle.labtop.specs.Scapconf.{Captured, captured, has_segment}
 use Rattle.labtop.specs.Settings.{is_built}
 use Rattle.scapconf.specs.declared.settings.Settings.{Settings}
@@ -19,7 +20,7 @@ pub data Verdict : Type 0 where
   Missing : Verdict
 
 abbrev pub limits : Limits
-limits = record { frames = MOST_FRAMES; bytes = MOST_BYTES }
+limits = record { frames = MOST_RECORDS; bytes = MOST_BYTES }
 
 -- the records of a capture whose end is whole
 abbrev pub whole_in : List Frame → End → Option (List Frame)

@@ -13,3 +13,5 @@ pub mod Rows
 pub mod Matching
 pub mod Matched
 pub mod MatchAnswers
+pub mod Heads
+pub mod Kinds

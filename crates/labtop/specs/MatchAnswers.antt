@@ -1,4 +1,4 @@
-use Rattle.std.specs.Prelude.{ℕ, ◌≡◌, ◌⊎◌, List, Option}
+use Rattle.std.specs.Prelude.{ℕ, ◌≡◌, ◌⊎◌, List, [], ◌∷◌, Option}
 use Rattle.capfilter.specs.Expr.{Expr}
 use Rattle.capfilter.specs.Faults.{IsFault, Reads}
 use Rattle.capfilter.specs.declared.filter_error.FilterFault.{FilterFault}
@@ -6,6 +6,8 @@ use Rattle.scap_world.specs.Files.{File, file_of}
 use Rattle.scapconf.specs.declared.settings_error.SettingsKind.TheVariants as kinds
 use Rattle.scapconf.specs.declared.status.Status.{Status}
 use Rattle.scapconf.specs.declared.status.Status.TheVariants.{Done, Memory, Usage, Settings as Faulty, ReadFault, WriteFault, NotPcap, BadRecord, CutShort, TooLong, Unbuilt}
+use Rattle.labtop.specs.Kinds as kind
+use Rattle.labtop.specs.Kinds.{MayBe}
 use Rattle.labtop.specs.Matching.{matched_of, AllowsMatch, CompletesMatch, LeavesMatch, WritesMatch}
 
 -- docs/RULES.md, "Matches" and "Answers".
@@ -26,19 +28,20 @@ no_filter = Faulty 0 kinds.Filter
 abbrev pub RefusesFilter : List ℕ → Status → Type 0
 RefusesFilter text s = (s ≡ Memory) ⊎ ((s ≡ no_filter) × HasNoFilter text)
 
+-- the statuses of a match, whatever its files hold: the fault of its filter, or want of memory, or for what is a filter one of
+-- the others
+abbrev pub IsOfMatch : List ℕ → Status → Type 0
+IsOfMatch filter (Faulty line fault) = (line ≡ 0) × (fault ≡ kinds.Filter) × HasNoFilter filter
+IsOfMatch filter Memory = Unit {0}
+IsOfMatch filter s = Reading filter (λ _.
+    MayBe (kind.done ∷ kind.read_fault ∷ kind.write_fault ∷ kind.not_pcap ∷ kind.bad_record ∷ kind.cut_short ∷ kind.too_long ∷ []) s)
+
 -- the answer of a match: the fault of its filter, or what the filter and the capture ask for
 abbrev pub IsMatchAnswer : List File → (filter capture : List ℕ) → Status → Type 0
 IsMatchAnswer files filter capture Memory = Unit {0}
 IsMatchAnswer files filter capture ReadFault = Unit {0}
-IsMatchAnswer files filter capture Usage = ⊥
-IsMatchAnswer files filter capture Unbuilt = ⊥
-IsMatchAnswer files filter capture (Faulty line kind) = (line ≡ 0) × (kind ≡ kinds.Filter) × HasNoFilter filter
-IsMatchAnswer files filter capture Done = Reading filter (λ e. AllowsMatch (matched_of e (file_of files capture)) Done)
-IsMatchAnswer files filter capture WriteFault = Reading filter (λ e. AllowsMatch (matched_of e (file_of files capture)) WriteFault)
-IsMatchAnswer files filter capture (NotPcap kind) = Reading filter (λ e. AllowsMatch (matched_of e (file_of files capture)) (NotPcap kind))
-IsMatchAnswer files filter capture (BadRecord at len) = Reading filter (λ e. AllowsMatch (matched_of e (file_of files capture)) (BadRecord at len))
-IsMatchAnswer files filter capture (CutShort bytes) = Reading filter (λ e. AllowsMatch (matched_of e (file_of files capture)) (CutShort bytes))
-IsMatchAnswer files filter capture TooLong = Reading filter (λ e. AllowsMatch (matched_of e (file_of files capture)) TooLong)
+IsMatchAnswer files filter capture (Faulty line fault) = (line ≡ 0) × (fault ≡ kinds.Filter) × HasNoFilter filter
+IsMatchAnswer files filter capture s = Reading filter (λ e. AllowsMatch (matched_of e (file_of files capture)) s)
 
 -- the file is whole
 abbrev pub IsWritten : List File → (filter capture out : List ℕ) → Option (List File) → Option (List File) → Type 0

@@ -1,5 +1,5 @@
 -- docs/RULES.md, "Matches".
-use Rattle.std.specs.Prelude.{ℕ, ◌≡◌, ◌⊎◌, List, [], ◌++◌, Bool, false, codes, flat_map, if◌then◌else◌, Option, Some, None, Result, Ok, Err}
+use Rattle.std.specs.Prelude.{ℕ, ◌≡◌, ◌⊎◌, List, [], ◌∷◌, ◌++◌, Bool, false, codes, flat_map, if◌then◌else◌, Option, Some, None, Result, Ok, Err}
 use Rattle.std.specs.Fmt.{decimal}
 use Rattle.capfilter.specs.Expr.{Expr}
 use Rattle.capfilter.specs.Truth.{truth}
@@ -14,6 +14,8 @@ use Rattle.scapconf.specs.declared.status.Status.{Status}
 use Rattle.scapconf.specs.declared.status.Status.TheVariants as status
 use Rattle.labtop.specs.Answers.{IsPart}
 use Rattle.labtop.specs.Drill.{limits}
+use Rattle.labtop.specs.Kinds as kind
+use Rattle.labtop.specs.Kinds.{MayBe}
 use Rattle.labtop.specs.Names.{match_name}
 use Rattle.labtop.specs.Scapconf.{fates, packets_of}
 
@@ -59,74 +61,24 @@ abbrev pub matched_of : Expr → Option (List ℕ) → Matched
 matched_of filter None = Unread
 matched_of filter (Some bytes) = matched_in filter bytes
 
+-- the statuses behind which the file is whole
+abbrev pub IsEnd : Status → Type 0
+IsEnd s = MayBe (kind.done ∷ kind.bad_record ∷ kind.cut_short ∷ kind.too_long ∷ []) s
+
+-- the statuses that no match has
+abbrev pub IsForeign : Status → Type 0
+IsForeign s = MayBe (kind.usage ∷ kind.settings ∷ kind.unbuilt ∷ []) s
+
 -- the statuses that are allowed: want of memory and a fault of reading may stand in place of the capture's own, and a fault of
 -- writing where a file is written
 abbrev pub AllowsMatch : Matched → Status → Type 0
 AllowsMatch matched status.Memory = Unit {0}
 AllowsMatch matched status.ReadFault = Unit {0}
-AllowsMatch matched status.Usage = ⊥
-AllowsMatch matched (status.Settings line kind) = ⊥
-AllowsMatch matched status.Unbuilt = ⊥
-AllowsMatch (Writes text end) status.Done = status.Done ≡ end
-AllowsMatch (Writes text end) (status.BadRecord at len) = status.BadRecord at len ≡ end
-AllowsMatch (Writes text end) (status.CutShort bytes) = status.CutShort bytes ≡ end
-AllowsMatch (Writes text end) status.TooLong = status.TooLong ≡ end
 AllowsMatch (Writes text end) status.WriteFault = Unit {0}
-AllowsMatch (Writes text end) (status.NotPcap kind) = ⊥
-AllowsMatch (Refuses fault) status.Done = ⊥
-AllowsMatch (Refuses fault) (status.BadRecord at len) = ⊥
-AllowsMatch (Refuses fault) (status.CutShort bytes) = ⊥
-AllowsMatch (Refuses fault) status.TooLong = ⊥
-AllowsMatch (Refuses fault) status.WriteFault = ⊥
+AllowsMatch (Writes text end) s = IsEnd s × (s ≡ end)
 AllowsMatch (Refuses fault) (status.NotPcap kind) = kind ≡ fault
-AllowsMatch Unread status.Done = ⊥
-AllowsMatch Unread (status.BadRecord at len) = ⊥
-AllowsMatch Unread (status.CutShort bytes) = ⊥
-AllowsMatch Unread status.TooLong = ⊥
-AllowsMatch Unread status.WriteFault = ⊥
-AllowsMatch Unread (status.NotPcap kind) = ⊥
-
--- the statuses behind which the file is whole
-abbrev pub IsEnd : Status → Type 0
-IsEnd status.Done = Unit {0}
-IsEnd (status.BadRecord at len) = Unit {0}
-IsEnd (status.CutShort bytes) = Unit {0}
-IsEnd status.TooLong = Unit {0}
-IsEnd status.Memory = ⊥
-IsEnd status.Usage = ⊥
-IsEnd (status.Settings line kind) = ⊥
-IsEnd status.ReadFault = ⊥
-IsEnd status.WriteFault = ⊥
-IsEnd (status.NotPcap kind) = ⊥
-IsEnd status.Unbuilt = ⊥
-
--- the statuses that leave every file as it was
-abbrev pub IsUnwritten : Status → Type 0
-IsUnwritten status.ReadFault = Unit {0}
-IsUnwritten (status.NotPcap kind) = Unit {0}
-IsUnwritten status.Usage = Unit {0}
-IsUnwritten (status.Settings line kind) = Unit {0}
-IsUnwritten status.Unbuilt = Unit {0}
-IsUnwritten status.Done = ⊥
-IsUnwritten status.Memory = ⊥
-IsUnwritten status.WriteFault = ⊥
-IsUnwritten (status.BadRecord at len) = ⊥
-IsUnwritten (status.CutShort bytes) = ⊥
-IsUnwritten status.TooLong = ⊥
-
--- the statuses that no match has
-abbrev pub IsForeign : Status → Type 0
-IsForeign status.Usage = Unit {0}
-IsForeign (status.Settings line kind) = Unit {0}
-IsForeign status.Unbuilt = Unit {0}
-IsForeign status.Done = ⊥
-IsForeign status.Memory = ⊥
-IsForeign status.ReadFault = ⊥
-IsForeign status.WriteFault = ⊥
-IsForeign (status.NotPcap kind) = ⊥
-IsForeign (status.BadRecord at len) = ⊥
-IsForeign (status.CutShort bytes) = ⊥
-IsForeign status.TooLong = ⊥
+AllowsMatch (Refuses fault) s = ⊥
+AllowsMatch Unread s = ⊥
 
 -- the files behind a match that came to its end
 abbrev pub WritesMatch : Matched → List ℕ → Option (List File) → Option (List File) → Type 0

@@ -61,6 +61,11 @@ abbrev pub GoesBy : List File → Option (List ℕ) → Settings → Type 0
 GoesBy files None s = s ≡ default_settings
 GoesBy files (Some name) s = IsSomeAnd (file_of files name) (λ text. Reads text s)
 
+-- settings that a drill may go by, whatever its files hold: the defaults, or what some text says
+abbrev pub MayGoBy : Option (List ℕ) → Settings → Type 0
+MayGoBy None s = s ≡ default_settings
+MayGoBy (Some name) s = (text : List ℕ) × Reads text s
+
 -- the text of that file has its fault in that line
 abbrev pub HasFault : List File → Option (List ℕ) → ℕ → SettingsKind → Type 0
 HasFault files None line kind = ⊥

@@ -82,6 +82,13 @@ command_of (program ∷ command ∷ words) =
     if bytes_eq command (codes "drill") then (if has_later words then Later else drill_words words) else
     if bytes_eq command (codes "match") then match_words words else Wrong
 
+-- something holds of the words of a drill, and of a match
+abbrev pub OfDrill : List (Bor (List ℕ)) → (Option (List ℕ) → (capture out : List ℕ) → Type 0) → Type 0
+OfDrill words P = (settings : Option (List ℕ)) (capture out : List ℕ) → command_of (texts words) ≡ Drill settings capture out → P settings capture out
+
+abbrev pub OfMatch : List (Bor (List ℕ)) → ((filter capture out : List ℕ) → Type 0) → Type 0
+OfMatch words P = (filter capture out : List ℕ) → command_of (texts words) ≡ Match filter capture out → P filter capture out
+
 -- the files that a command creates
 abbrev pub outputs_of : Command → List (List ℕ)
 outputs_of (Drill settings capture out) = delivery_name out ∷ report_name out ∷ []
@@ -97,18 +104,7 @@ told_word (Some word) = Some word.now
 -- what the code found is that command
 abbrev pub Means : Asked → Command → Type 0
 Means (asked.Drill s c o) (Drill settings capture out) = (told_word s ≡ settings) × (c.now ≡ capture) × (o.now ≡ out)
-Means (asked.Drill s c o) (Match filter capture out) = ⊥
-Means (asked.Drill s c o) Wrong = ⊥
-Means (asked.Drill s c o) Later = ⊥
-Means (asked.Match f c o) (Drill settings capture out) = ⊥
 Means (asked.Match f c o) (Match filter capture out) = (f.now ≡ filter) × (c.now ≡ capture) × (o.now ≡ out)
-Means (asked.Match f c o) Wrong = ⊥
-Means (asked.Match f c o) Later = ⊥
-Means asked.Wrong (Drill settings capture out) = ⊥
-Means asked.Wrong (Match filter capture out) = ⊥
 Means asked.Wrong Wrong = Unit {0}
-Means asked.Wrong Later = ⊥
-Means asked.Later (Drill settings capture out) = ⊥
-Means asked.Later (Match filter capture out) = ⊥
-Means asked.Later Wrong = ⊥
 Means asked.Later Later = Unit {0}
+Means _ _ = ⊥

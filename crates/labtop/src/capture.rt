@@ -6,17 +6,8 @@ ghost use Rattle.pcapfile.specs.Head.{head_of};
 ghost use Rattle.labtop.specs.Drill.{limits, whole_of};
 
 use crate::memory::Memory;
-use pcapfile::{FileHead, Frame, Frames, Next, Tail};
+use pcapfile::{FileHead, Frame, Frames, MOST_BYTES, MOST_RECORDS, Next, Tail};
 use std::alloc::Global;
-
-/// The most records of a capture.
-pub(crate) const MOST_FRAMES: u32 = 4_194_304;
-
-/// The most bytes of a capture.
-pub(crate) const MOST_BYTES: u64 = 4_294_967_296;
-
-/// The most bytes of a capture that is taken yet.
-pub(crate) const MOST_BUILT: usize = 16_777_216;
 
 /// The records of a capture whose end is whole, by the bytes behind its head.
 #[tactic(auto, using(crate::proofs::FramesLemmas::passed_rest, std::proofs::lemmas::List::Sums::sum_by_push))]
@@ -30,7 +21,7 @@ pub(crate) fn whole_frames(
     ensures fits { IfOk result (λ found. IfSome found (λ v. sum_by (λ f. length f.bytes) v.items ≤ length rest.now)) }
     ensures few { IfOk result (λ found. IfSome found (λ v. vec_len v ≤ length rest.now)) }
 {
-    let mut frames = Frames::new(alloc, head, MOST_FRAMES, MOST_BYTES);
+    let mut frames = Frames::new(alloc, head, MOST_RECORDS, MOST_BYTES);
     frames.feed(rest)?;
     let mut found = Vec::new(alloc);
     'records: loop {

@@ -1,11 +1,14 @@
 // From a capture to its files.
-ghost use Rattle.std.specs.Prelude.{◌≡◌, ◌≢◌, ◌⊎◌, ◌≤◌, ℕ, List, true, false, IfErr, IfSome, MatchOption, OnOk, IsErrOf};
+ghost use Rattle.std.specs.Prelude.{◌≡◌, ◌≢◌, ◌⊎◌, ◌≤◌, ℕ, List, true, false, IfErr, IfSome, OnOk, IsErrOf};
+ghost use Rattle.histbook.specs.Moves.{IsBudgetHistory};
 ghost use Rattle.scap_world.specs.Causes.{Rose};
 ghost use Rattle.scap_world.specs.Files.{file_of, told_file, told_put};
 ghost use Rattle.labtop.specs.Names.{delivery_name, report_name};
+ghost use Rattle.labtop.specs.Causes.{RoseAtOutputs, RoseAtSettings};
 ghost use Rattle.labtop.specs.Drill.{asked_of};
-ghost use Rattle.labtop.specs.Answers.{Allows, By, Completes, IsAnswer, IsBefore, IsDone, IsDoneBy, IsOfDrill, IsPart, LeavesBy, LeavesParts};
+ghost use Rattle.labtop.specs.Answers.{Allows, By, Completes, InTurn, HasHistory, IsAnswer, IsBefore, IsDone, IsDoneBy, IsOfDrill, IsOfDrillBy, IsPart, LeavesBy, LeavesParts};
 ghost use Rattle.labtop.specs.Headline.{IsEmpty};
+ghost use Rattle.labtop.specs.Heads.{IsBehindHead};
 ghost use Rattle.labtop.specs.Settings.{GoesBy, is_built, terms_of};
 ghost use Rattle.labtop.specs.Words.{told_word};
 
@@ -30,14 +33,15 @@ fn write_both<S: Shelf>(
         (told_put (delivery_name out.now) outcome.now.delivery.items (S.files shelf.old))) }
     ensures others { (other : List ℕ) → other ≢ delivery_name out.now → other ≢ report_name out.now
         → told_file (S.files shelf.new) other ≡ told_file (S.files shelf.old) other }
+    ensures taken { (other : List ℕ) → S.taken shelf.new other ≡ S.taken shelf.old other }
     ensures delivery_part { IsPart outcome.now.delivery.items (told_file (S.files shelf.old) (delivery_name out.now))
         (told_file (S.files shelf.new) (delivery_name out.now)) }
     ensures report_part { IsPart outcome.now.report.items (told_file (S.files shelf.old) (report_name out.now))
         (told_file (S.files shelf.new) (report_name out.now)) }
+    ensures in_turn { InTurn outcome.now.delivery.items out.now (S.files shelf.old) (S.files shelf.new) }
     ensures kinds { IfErr result (λ e. (e ≡ Status.Memory) ⊎ (e ≡ Status.WriteFault)) }
     ensures cause { IsErrOf result Status.WriteFault
-        → Rose (S.write_faults shelf.old (delivery_name out.now)) (S.write_faults shelf.new (delivery_name out.now))
-        ⊎ Rose (S.write_faults shelf.old (report_name out.now)) (S.write_faults shelf.new (report_name out.now)) }
+        → RoseAtOutputs out.now (S.write_faults shelf.old) (S.write_faults shelf.new) }
     ensures read_later { (other : List ℕ) → S.read_faults shelf.old other ≤ S.read_faults shelf.new other }
     ensures open_files { S.open_files shelf.new ≡ S.open_files shelf.old }
 {
@@ -59,8 +63,10 @@ fn drill_with<S: Shelf>(
     ensures verdict { IfSome (S.files shelf.old) (λ files. Allows (asked_of settings.now (file_of files capture.now)) result.status) }
     ensures kinds { IsOfDrill result.status }
     ensures unbuilt { is_built settings.now ≡ false → (result.status ≡ Status.Unbuilt) × (shelf.new ≡ shelf.old) }
+    ensures few { result.status ≡ Status.Done → IfSome (S.files shelf.old) (λ _. S.taken shelf.new capture.now ≤ 16777217) }
     ensures done { result.status ≡ Status.Done → IfSome (S.files shelf.old)
         (λ files. IsDone (terms_of settings.now) (asked_of settings.now (file_of files capture.now)) out.now result.journal (S.files shelf.old) (S.files shelf.new)) }
+    ensures history { result.status ≡ Status.Done → IsBudgetHistory settings.now.set.marks.limit result.journal }
     ensures journal { result.status ≢ Status.Done → IsEmpty result.journal }
     ensures parts { IfSome (S.files shelf.old)
         (λ files. LeavesParts (terms_of settings.now) (asked_of settings.now (file_of files capture.now)) out.now (S.files shelf.old) (S.files shelf.new)) }
@@ -68,10 +74,10 @@ fn drill_with<S: Shelf>(
     ensures others { (other : List ℕ) → other ≢ delivery_name out.now → other ≢ report_name out.now
         → told_file (S.files shelf.new) other ≡ told_file (S.files shelf.old) other }
     ensures read { result.status ≡ Status.ReadFault
-        → Rose (S.read_faults shelf.old capture.now) (S.read_faults shelf.new capture.now) × (is_built settings.now ≡ true) }
+        → Rose (S.read_faults shelf.old capture.now) (S.read_faults shelf.new capture.now) × (is_built settings.now ≡ true)
+        × IfSome (S.files shelf.old) (λ files. IsBehindHead (file_of files capture.now) (S.taken shelf.new capture.now)) }
     ensures write { result.status ≡ Status.WriteFault
-        → Rose (S.write_faults shelf.old (delivery_name out.now)) (S.write_faults shelf.new (delivery_name out.now))
-        ⊎ Rose (S.write_faults shelf.old (report_name out.now)) (S.write_faults shelf.new (report_name out.now)) }
+        → RoseAtOutputs out.now (S.write_faults shelf.old) (S.write_faults shelf.new) }
     ensures open_files { S.open_files shelf.new ≡ S.open_files shelf.old }
 {
     if !is_built(settings) {
@@ -109,10 +115,16 @@ pub fn drill_run<S: Shelf>(
     // What isn't built of the settings is answered before the shelf is asked for anything.
     ensures unbuilt { is_built settings ≡ false → (result.status ≡ Status.Unbuilt) × (shelf.new ≡ shelf.old) }
 
+    // Of the capture one byte more than the most is taken, where it is done.
+    ensures few { result.status ≡ Status.Done → IfSome (S.files shelf.old) (λ _. S.taken shelf.new capture.now ≤ 16777217) }
+
     // Where it is done, the journal is lawful, its budget's history is one, and the two files are its texts.
     ensures done { result.status ≡ Status.Done → IfSome (S.files shelf.old)
         (λ files. IsDone (terms_of settings) (asked_of settings (file_of files capture.now)) out.now result.journal (S.files shelf.old) (S.files shelf.new)) }
     ensures journal { result.status ≢ Status.Done → IsEmpty result.journal }
+
+    // Also over a shelf that tells no files: the journal is one history of a budget that never passes the settings' limit.
+    ensures history { result.status ≡ Status.Done → IsBudgetHistory settings.set.marks.limit result.journal }
 
     // Whatever the status, an output is as it was or holds a front of its text, and no other file is touched.
     ensures parts { IfSome (S.files shelf.old)
@@ -121,17 +133,16 @@ pub fn drill_run<S: Shelf>(
     ensures others { (other : List ℕ) → other ≢ delivery_name out.now → other ≢ report_name out.now
         → told_file (S.files shelf.new) other ≡ told_file (S.files shelf.old) other }
 
-    // A fault was counted where it is answered.
+    // A fault was counted where it is answered, one of reading where the head isn't refused.
     ensures read { result.status ≡ Status.ReadFault
-        → Rose (S.read_faults shelf.old capture.now) (S.read_faults shelf.new capture.now) × (is_built settings ≡ true) }
+        → Rose (S.read_faults shelf.old capture.now) (S.read_faults shelf.new capture.now) × (is_built settings ≡ true)
+        × IfSome (S.files shelf.old) (λ files. IsBehindHead (file_of files capture.now) (S.taken shelf.new capture.now)) }
     ensures write { result.status ≡ Status.WriteFault
-        → Rose (S.write_faults shelf.old (delivery_name out.now)) (S.write_faults shelf.new (delivery_name out.now))
-        ⊎ Rose (S.write_faults shelf.old (report_name out.now)) (S.write_faults shelf.new (report_name out.now)) }
+        → RoseAtOutputs out.now (S.write_faults shelf.old) (S.write_faults shelf.new) }
 
     // Where packets are delivered and no fault was counted, it is done, or there was no memory.
     ensures complete { (Rose (S.read_faults shelf.old capture.now) (S.read_faults shelf.new capture.now) → ⊥)
-        → (Rose (S.write_faults shelf.old (delivery_name out.now)) (S.write_faults shelf.new (delivery_name out.now)) → ⊥)
-        → (Rose (S.write_faults shelf.old (report_name out.now)) (S.write_faults shelf.new (report_name out.now)) → ⊥)
+        → (RoseAtOutputs out.now (S.write_faults shelf.old) (S.write_faults shelf.new) → ⊥)
         → IfSome (S.files shelf.old) (λ files. Completes (asked_of settings (file_of files capture.now)) result.status) }
 
     // What was opened is ended, and what was created is finished.
@@ -149,7 +160,9 @@ pub(crate) fn drill_by<S: Shelf>(
     shelf: &mut S,
 ) -> LabDone
     ensures answer { IfSome (S.files shelf.old) (λ files. IsAnswer files (told_word settings.entry) capture.now result.status) }
-    ensures never { result.status ≢ Status.Usage }
+    ensures kinds { IsOfDrillBy (told_word settings.entry) result.status }
+    ensures history { result.status ≡ Status.Done → HasHistory (told_word settings.entry) result.journal }
+    ensures few { result.status ≡ Status.Done → IfSome (S.files shelf.old) (λ _. S.taken shelf.new capture.now ≤ 16777217) }
     ensures done { result.status ≡ Status.Done → IfSome (S.files shelf.old)
         (λ files. IsDoneBy files (told_word settings.entry) capture.now out.now result.journal (S.files shelf.old) (S.files shelf.new)) }
     ensures journal { result.status ≢ Status.Done → IsEmpty result.journal }
@@ -158,12 +171,11 @@ pub(crate) fn drill_by<S: Shelf>(
     ensures others { (other : List ℕ) → other ≢ delivery_name out.now → other ≢ report_name out.now
         → told_file (S.files shelf.new) other ≡ told_file (S.files shelf.old) other }
     ensures read { result.status ≡ Status.ReadFault
-        → MatchOption (told_word settings.entry) ⊥ (λ name. Rose (S.read_faults shelf.old name) (S.read_faults shelf.new name))
-        ⊎ (Rose (S.read_faults shelf.old capture.now) (S.read_faults shelf.new capture.now)
-        × IfSome (S.files shelf.old) (λ files. By files (told_word settings.entry) (λ s. is_built s ≡ true))) }
+        → RoseAtSettings (told_word settings.entry) (S.read_faults shelf.old) (S.read_faults shelf.new)
+        ⊎ (Rose (S.read_faults shelf.old capture.now) (S.read_faults shelf.new capture.now) × IfSome (S.files shelf.old)
+        (λ files. By files (told_word settings.entry) (λ s. is_built s ≡ true) × IsBehindHead (file_of files capture.now) (S.taken shelf.new capture.now))) }
     ensures write { result.status ≡ Status.WriteFault
-        → Rose (S.write_faults shelf.old (delivery_name out.now)) (S.write_faults shelf.new (delivery_name out.now))
-        ⊎ Rose (S.write_faults shelf.old (report_name out.now)) (S.write_faults shelf.new (report_name out.now)) }
+        → RoseAtOutputs out.now (S.write_faults shelf.old) (S.write_faults shelf.new) }
     ensures open_files { S.open_files shelf.new ≡ S.open_files shelf.old }
 {
     match settings_by(alloc, shelf, settings) {

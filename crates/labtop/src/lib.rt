@@ -1,7 +1,7 @@
 //! The commands that run in one thread, from the words and the files of a shelf to a status and the files.
 //! Each answer has its cause as a clause of `lab_top`, and the files written are the defined texts of the capture.
 //! Stands on scap_world (the files), pcapfile (the capture), linkip and porthdr (the headers), capfilter (the filter), streamkey
-//! (keys), datagrams (the replay), histbook (the journal), prio_budget (the marks), the definitions of streamdefs, evring, and itoa.
+//! (keys), datagrams (the replay), histbook (the journal), prio_budget (the marks), the definitions of streamdefs, evring, and textout.
 #![tactic(auto)]
 
 mod built;
@@ -13,6 +13,7 @@ mod found;
 mod intake;
 mod lab_done;
 pub mod laws;
+mod limits;
 mod match_by;
 pub mod match_laws;
 pub mod match_rows;
@@ -22,7 +23,6 @@ mod matching;
 mod memory;
 mod names;
 mod outcome;
-mod put;
 mod report;
 pub mod rows;
 mod settings_file;

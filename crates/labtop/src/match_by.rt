@@ -4,9 +4,10 @@ ghost use Rattle.capfilter.specs.Expr.{Expr};
 ghost use Rattle.capfilter.specs.Faults.{IsFault, Reads};
 ghost use Rattle.capfilter.specs.declared.filter_error.FilterFault.{FilterFault};
 ghost use Rattle.scap_world.specs.Causes.{Rose};
-ghost use Rattle.scap_world.specs.Files.{told_file};
+ghost use Rattle.scap_world.specs.Files.{file_of, told_file};
 ghost use Rattle.labtop.specs.Answers.{IsBefore};
-ghost use Rattle.labtop.specs.MatchAnswers.{no_filter, CompletesMatched, IsMatchAnswer, IsWritten, LeavesMatched, RefusesFilter};
+ghost use Rattle.labtop.specs.Heads.{IsBehindHead};
+ghost use Rattle.labtop.specs.MatchAnswers.{no_filter, CompletesMatched, IsMatchAnswer, IsOfMatch, IsWritten, LeavesMatched, RefusesFilter};
 ghost use Rattle.labtop.specs.Matching.{IsEnd};
 ghost use Rattle.labtop.specs.Names.{match_name};
 
@@ -42,7 +43,7 @@ pub(crate) fn match_by<S: Shelf>(
     shelf: &mut S,
 ) -> Status
     ensures answer { IfSome (S.files shelf.old) (λ files. IsMatchAnswer files filter.now capture.now result) }
-    ensures never { result ≢ Status.Usage }
+    ensures kinds { IsOfMatch filter.now result }
     ensures refused { (fault : FilterFault) → IsFault filter.now fault → ((result ≡ Status.Memory) ⊎ (result ≡ no_filter)) × (shelf.new ≡ shelf.old) }
     ensures written { IsEnd result → IfSome (S.files shelf.old)
         (λ files. IsWritten files filter.now capture.now out.now (S.files shelf.old) (S.files shelf.new)) }
@@ -50,7 +51,8 @@ pub(crate) fn match_by<S: Shelf>(
         (λ files. LeavesMatched files filter.now capture.now out.now (S.files shelf.old) (S.files shelf.new)) }
     ensures before { IsBefore result → S.files shelf.new ≡ S.files shelf.old }
     ensures others { (other : List ℕ) → other ≢ match_name out.now → told_file (S.files shelf.new) other ≡ told_file (S.files shelf.old) other }
-    ensures read { result ≡ Status.ReadFault → Rose (S.read_faults shelf.old capture.now) (S.read_faults shelf.new capture.now) }
+    ensures read { result ≡ Status.ReadFault → Rose (S.read_faults shelf.old capture.now) (S.read_faults shelf.new capture.now)
+        × IfSome (S.files shelf.old) (λ files. IsBehindHead (file_of files capture.now) (S.taken shelf.new capture.now)) }
     ensures write { result ≡ Status.WriteFault
         → Rose (S.write_faults shelf.old (match_name out.now)) (S.write_faults shelf.new (match_name out.now)) }
     ensures complete { (Rose (S.read_faults shelf.old capture.now) (S.read_faults shelf.new capture.now) → ⊥)

@@ -2,9 +2,10 @@
 ghost use Rattle.std.specs.Prelude.{◌≡◌, ◌≢◌, ◌⊎◌, ◌≤◌, ℕ, List, IfErr, IfSome, OnOk, IsErrOf};
 ghost use Rattle.scap_world.specs.Causes.{Rose};
 ghost use Rattle.scap_world.specs.Files.{file_of, told_file, told_put};
-ghost use Rattle.labtop.specs.Answers.{IsPart};
+ghost use Rattle.labtop.specs.Answers.{IsBefore, IsPart};
+ghost use Rattle.labtop.specs.Heads.{IsBehindHead};
 ghost use Rattle.labtop.specs.Matched.{end_of};
-ghost use Rattle.labtop.specs.Matching.{matched_of, status_of_end, AllowsMatch, CompletesMatch, IsEnd, IsForeign, IsUnwritten, LeavesMatch, WritesMatch};
+ghost use Rattle.labtop.specs.Matching.{matched_of, status_of_end, AllowsMatch, CompletesMatch, IsEnd, IsForeign, LeavesMatch, WritesMatch};
 ghost use Rattle.labtop.specs.Names.{match_name};
 
 use crate::files::write_file;
@@ -65,11 +66,12 @@ pub(crate) fn match_run<S: Shelf>(
     // Whatever the status, the file is as it was or holds a front of its text, and no other file is touched.
     ensures parts { IfSome (S.files shelf.old)
         (λ files. LeavesMatch (matched_of filter.now (file_of files capture.now)) out.now (S.files shelf.old) (S.files shelf.new)) }
-    ensures before { IsUnwritten result → S.files shelf.new ≡ S.files shelf.old }
+    ensures before { IsBefore result → S.files shelf.new ≡ S.files shelf.old }
     ensures others { (other : List ℕ) → other ≢ match_name out.now → told_file (S.files shelf.new) other ≡ told_file (S.files shelf.old) other }
 
-    // A fault was counted where it is answered.
-    ensures read { result ≡ Status.ReadFault → Rose (S.read_faults shelf.old capture.now) (S.read_faults shelf.new capture.now) }
+    // A fault was counted where it is answered, one of reading where the head isn't refused.
+    ensures read { result ≡ Status.ReadFault → Rose (S.read_faults shelf.old capture.now) (S.read_faults shelf.new capture.now)
+        × IfSome (S.files shelf.old) (λ files. IsBehindHead (file_of files capture.now) (S.taken shelf.new capture.now)) }
     ensures write { result ≡ Status.WriteFault
         → Rose (S.write_faults shelf.old (match_name out.now)) (S.write_faults shelf.new (match_name out.now)) }
 

@@ -1,24 +1,23 @@
 // The matches of a capture that is read by pieces.
-ghost use Rattle.std.specs.Prelude.{◌≡◌, ◌≤◌, ◌<◌, ◌+◌, ◌-◌, ◌++◌, ◌⊎◌, ℕ, List, [], Some, IfOk, IfErr, IfSome, OnOk, IsErrOf, length};
+ghost use Rattle.std.specs.Prelude.{◌≡◌, ◌≤◌, ◌<◌, ◌+◌, ◌-◌, ◌++◌, ◌⊎◌, ℕ, List, [], IfOk, IfErr, IfSome, OnOk, IsErrOf, IsOk, length};
+ghost use Rattle.pcapfile.specs.Head.{head_of};
 ghost use Rattle.pcapfile.specs.declared.head.FileHead.{FileHead as Head};
 ghost use Rattle.pcapfile.specs.Reading.{IsOpen, place_at};
 ghost use Rattle.scap_world.specs.Causes.{HasCause, Rose};
-ghost use Rattle.scap_world.specs.Contents.{prefixed};
-ghost use Rattle.scap_world.specs.Files.{file_of, IsThere};
+ghost use Rattle.scap_world.specs.declared.fault.WorldFault.TheVariants.{Failed};
+ghost use Rattle.scap_world.specs.Files.{file_of};
 ghost use Rattle.labtop.specs.Drill.{limits};
+ghost use Rattle.labtop.specs.Heads.{IsBehindHead};
 ghost use Rattle.labtop.specs.Matched.{came, HasAll, HasRead, HasTurned, IsInside, IsMatched};
 ghost use Rattle.labtop.specs.Matching.{matched_in, matched_of};
 
-use crate::files::{buffer, read_more, status_of_read};
+use crate::files::{buffer, read_head, status_of_read};
 use crate::matching::{Matches, Matching};
 use capfilter::Filter;
-use pcapfile::{FileHead, FrameFault, HeadFault};
+use pcapfile::{FileHead, FrameFault, HEAD_SIZE, HeadFault};
 use scap_world::{Shelf, Source, WorldFault};
 use scapconf::Status;
 use std::alloc::Global;
-
-/// The bytes of a file header.
-const HEAD_SIZE: usize = 24;
 
 /// What one turn of reading found.
 #[derive(Clone, Copy)]
@@ -29,26 +28,6 @@ pub(crate) enum Turn {
     Ended,
     /// That no more records can follow.
     Fault(FrameFault),
-}
-
-/// The first bytes of a source: those of a file header, where it has as many.
-fn read_head<S: Source>(
-    alloc: Global,
-    source: &mut S,
-    piece: &mut [u8],
-) -> Result<Vec<u8>, WorldFault>
-    requires { 0 < length piece.old }
-    ensures same { IfOk result (λ front. S.left source.old ≡ prefixed front.items (S.left source.new)) }
-    ensures whole { IfOk result (λ front. (HEAD_SIZE ≤ length front.items) ⊎ IfSome (S.left source.new) (λ rest. rest ≡ [])) }
-    ensures cause { HasCause (S.faults source.old) (S.faults source.new) result }
-{
-    let mut front = Vec::new(alloc);
-    'bytes: while front.len() < HEAD_SIZE {
-        if read_more(source, piece, &mut front)? == 0 {
-            return Ok(front);
-        }
-    }
-    Ok(front)
 }
 
 /// Takes the records that are whole, and reads once more.
@@ -108,6 +87,8 @@ fn matches_in<S: Source>(
     source: &mut S,
 ) -> Result<Result<Matches, HeadFault>, WorldFault>
     ensures matched { IfOk result (λ found. IfSome (S.left source.old) (λ bytes. IsMatched found (matched_in filter.now bytes))) }
+    ensures failed { IsErrOf result Failed
+        → IfSome (S.left source.old) (λ file. (S.taken source.new < S.taken source.old + HEAD_SIZE) ⊎ IsOk (head_of file)) }
     ensures cause { HasCause (S.faults source.old) (S.faults source.new) result }
 {
     let mut piece = buffer(alloc)?;
@@ -129,6 +110,8 @@ pub(crate) fn read_matches<S: Shelf>(
     shelf: &mut S,
 ) -> Result<Result<Matches, HeadFault>, Status>
     ensures matched { IfOk result (λ found. IfSome (S.files shelf.old) (λ files. IsMatched found (matched_of filter.now (file_of files capture.now)))) }
+    ensures head_first { IsErrOf result Status.ReadFault
+        → IfSome (S.files shelf.old) (λ files. IsBehindHead (file_of files capture.now) (S.taken shelf.new capture.now)) }
     ensures files { S.files shelf.new ≡ S.files shelf.old }
     ensures kinds { IfErr result (λ e. (e ≡ Status.Memory) ⊎ (e ≡ Status.ReadFault)) }
     ensures cause { IsErrOf result Status.ReadFault → Rose (S.read_faults shelf.old capture.now) (S.read_faults shelf.new capture.now) }

@@ -3,14 +3,13 @@ ghost use Rattle.std.specs.Prelude.{◌≡◌, ◌<◌, ◌^◌, ◌++◌, OnOk,
 ghost use Rattle.porthdr.specs.Transport.{kind_of};
 ghost use Rattle.labtop.specs.Matching.{is_match, line_for};
 
-use crate::capture::{MOST_BYTES, MOST_FRAMES};
 use crate::memory::Memory;
-use crate::put::{put_number, put_text};
 use capfilter::Filter;
 use linkip::network;
-use pcapfile::{FileHead, Frame, FrameFault, Frames, Link, Next, Tail};
+use pcapfile::{FileHead, Frame, FrameFault, Frames, Link, MOST_BYTES, MOST_RECORDS, Next, Tail};
 use porthdr::{Seen, transport};
 use std::alloc::Global;
+use textout::{put_number, put_text};
 
 /// Whether a record is accepted and the filter holds of its packet.
 fn is_match(filter: &Filter, link: Link, frame: &Frame) -> bool
@@ -81,7 +80,7 @@ impl Matching {
         ensures inside { IfOk result IsInside }
         ensures read { (filter : Expr) → IfOk result (λ m. HasRead filter head rest.now m) }
     {
-        let mut frames = Frames::new(alloc, head, MOST_FRAMES, MOST_BYTES);
+        let mut frames = Frames::new(alloc, head, MOST_RECORDS, MOST_BYTES);
         frames.feed(rest)?;
         Ok(Matching {
             link: head.link,

@@ -28,14 +28,8 @@ impl From<pcapfile::Memory> for Memory {
     }
 }
 
-impl From<histbook::Memory> for Memory {
-    fn from(_: histbook::Memory) -> Self {
-        Memory
-    }
-}
-
-impl From<datagrams::Memory> for Memory {
-    fn from(_: datagrams::Memory) -> Self {
+impl From<textout::Memory> for Memory {
+    fn from(_: textout::Memory) -> Self {
         Memory
     }
 }

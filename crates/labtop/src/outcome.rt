@@ -9,8 +9,9 @@ ghost use Rattle.labtop.specs.Settings.{terms_of};
 ghost use Rattle.streamdefs.specs.Lists.{total};
 ghost use Rattle.streamdefs.specs.Report.{records_of};
 
-use crate::capture::{MOST_BUILT, whole_frames};
+use crate::capture::whole_frames;
 use crate::intake::{Intake, intake_of};
+use crate::limits::MOST_BUILT;
 use crate::memory::Memory;
 use crate::summary::report;
 use datagrams::replay_all;

@@ -1,16 +1,15 @@
 // The lines of a report.
 ghost use Rattle.std.specs.Prelude.{◌≡◌, ◌<◌, ◌^◌, ◌++◌, [], OnOk};
-ghost use Rattle.datagrams.specs.Sums.{sums_line};
-ghost use Rattle.labtop.specs.ReportLines.{lines_of, numbers_line, totals_line};
+ghost use Rattle.datagrams.specs.Sums.{numbers_in};
+ghost use Rattle.labtop.specs.ReportLines.{lines_of};
 ghost use Rattle.streamdefs.specs.Handler.{way_mark};
-ghost use Rattle.streamdefs.specs.Report.{head_lines, records_of, records_line, status_line};
+ghost use Rattle.streamdefs.specs.Report.{budget_line, bytes_line, dir_line, head_lines, records_of, records_line, status_line};
 
 use crate::counts::RecordCounts;
-use crate::memory::Memory;
-use crate::put::{put_count, put_numbers, put_text};
 use crate::totals::Totals;
 use datagrams::{Conversation, RunningSums};
 use evring::Way;
+use textout::{Memory, put_count, put_numbers, put_text};
 
 fn mark_of(way: Way) -> &'static str
     ensures { result.now ≡ way_mark way }
@@ -33,9 +32,9 @@ pub(crate) fn put_head_lines(out: &mut Vec<u8>, cores: u16, workers: u16) -> Res
 }
 
 /// Appends the line of what became of a direction's bytes.
-#[tactic(auto, unfolding(datagrams::specs::Sums::sums_line))]
+#[tactic(auto, unfolding(streamdefs::specs::Report::dir_line))]
 fn put_dir_line(out: &mut Vec<u8>, conv: u32, way: Way, sums: &RunningSums) -> Result<(), Memory>
-    ensures { OnOk result (out.new.items ≡ out.old.items ++ sums_line conv way sums.now) }
+    ensures { OnOk result (out.new.items ≡ out.old.items ++ dir_line conv way (numbers_in sums.now)) }
 {
     put_count(out, "dir ", u64::from(conv))?;
     put_text(out, " ")?;
@@ -78,9 +77,9 @@ pub(crate) fn put_records_line(out: &mut Vec<u8>, counts: &RecordCounts) -> Resu
 }
 
 /// Appends the line of what became of all bytes.
-#[tactic(auto, unfolding(crate::specs::ReportLines::totals_line))]
+#[tactic(auto, unfolding(streamdefs::specs::Report::bytes_line))]
 pub(crate) fn put_bytes_line(out: &mut Vec<u8>, totals: &Totals) -> Result<(), Memory>
-    ensures { OnOk result (out.new.items ≡ out.old.items ++ totals_line totals.now.payload totals.now.delivered totals.now.shed) }
+    ensures { OnOk result (out.new.items ≡ out.old.items ++ bytes_line totals.now.payload totals.now.delivered 0 0 0 totals.now.shed) }
 {
     put_count(out, "bytes payload ", totals.payload)?;
     put_count(out, " delivered ", totals.delivered)?;
@@ -92,14 +91,14 @@ pub(crate) fn put_bytes_line(out: &mut Vec<u8>, totals: &Totals) -> Result<(), M
 }
 
 /// Appends the line of the budget.
-#[tactic(auto, unfolding(crate::specs::ReportLines::numbers_line))]
+#[tactic(auto, unfolding(streamdefs::specs::Report::budget_line))]
 pub(crate) fn put_budget_line(
     out: &mut Vec<u8>,
     stamps: u32,
     peak: u32,
     refused: u64,
 ) -> Result<(), Memory>
-    ensures { OnOk result (out.new.items ≡ out.old.items ++ numbers_line stamps peak refused) }
+    ensures { OnOk result (out.new.items ≡ out.old.items ++ budget_line stamps peak refused) }
 {
     put_count(out, "budget stamps ", u64::from(stamps))?;
     put_count(out, " peak ", u64::from(peak))?;

@@ -5,20 +5,16 @@ ghost use Rattle.std.specs.Prelude.{◌≡◌, [], ◌∷◌, take};
 ghost use Rattle.capfilter.specs.declared.prim.Primitive.TheVariants.{Tcp, Udp};
 ghost use Rattle.labtop.specs.Rows.{file_head, one_datagram, one_segment, mixed, late, begins_skipped, packet_at, filtered_by};
 ghost use Rattle.labtop.specs.Drill.{limits, verdict_of, Delivers, Refused, NotBuilt};
-ghost use Rattle.labtop.specs.declared.capture.TheConstants.{MOST_BUILT};
-ghost use Rattle.labtop.specs.declared.files.TheConstants.{PIECE};
-ghost use Rattle.labtop.specs.declared.settings_file.TheConstants.{MOST_TEXT};
+ghost use Rattle.labtop.specs.declared.limits.TheConstants.{MOST_BUILT};
 ghost use Rattle.scapconf.specs.Defaults.{default_settings};
 
 use pcapfile::HeadFault;
 
-/// The most records and bytes of a capture, its bytes that are taken yet, the bytes of a text of settings, and of one read.
+/// The most records and bytes of a capture, and its bytes that are taken yet.
 pub fn limits_are_the_stated_ones()
     ensures records { limits.frames ≡ 4194304 }
     ensures bytes { limits.bytes ≡ 4294967296 }
     ensures taken { MOST_BUILT ≡ 16777216 }
-    ensures text { MOST_TEXT ≡ 65536 }
-    ensures piece { PIECE ≡ 65536 }
 {}
 
 /// A capture of one datagram is delivered.

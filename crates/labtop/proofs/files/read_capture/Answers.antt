@@ -1,5 +1,5 @@
-use Rattle.labtop.proofs.ReadLemmas.{asked_of_read}
+use Rattle.labtop.proofs.ReadLemmas.{asked_left}
 use Rattle.labtop.proofs.files.read_capture.Goals as goal
 
-pub returns-clause-asked : goal.returns-clause-asked
-returns-clause-asked g c = λ s built. asked_of_read (λ v. v.items) s _ _ _ built c.read_file.ensures.there c.read_file.ensures.front
+pub returns-in-Ok-bytes-clause-asked : goal.returns-in-Ok-bytes-clause-asked
+returns-in-Ok-bytes-clause-asked g c = λ s built. asked_left s _ _ c.args.name.now c.in-Ok-bytes.bytes.items _ built c.in-Ok.ensures.files c.in-Ok.ensures.there c.in-Ok.ensures.left (c.in-Ok-bytes.ensures.enough s)

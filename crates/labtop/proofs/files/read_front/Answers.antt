@@ -1,10 +1,6 @@
-use Rattle.std.proofs.Common.{◌+◌, arith, ◌∙◌}
-use Rattle.labtop.proofs.ReadLemmas.{read_all, read_most}
+use Rattle.std.proofs.Common.{◌≡◌, ◌+◌, take}
+use Rattle.labtop.proofs.ReadLemmas.{from_first}
 use Rattle.labtop.proofs.files.read_front.Goals as goal
 
-pub returns-then-n-eq0-clause-bytes : goal.returns-then-n-eq0-clause-bytes
-returns-then-n-eq0-clause-bytes g c = read_all _ _ _ (c.args.most + 1) (c.loop-bytes.invariant.2 ∙ c.in_ok-n.ensures.same)
-    (omega (arith, c.in_ok-n.ensures.grows, c.in_ok-n.ensures.bound)) (c.in_ok-n.ensures.end c.if-n-eq0.true)
-
 pub returns-clause-bytes : goal.returns-clause-bytes
-returns-clause-bytes g c = read_most _ _ _ (c.args.most + 1) c.loop-bytes.invariant.2 (omega arith)
+returns-clause-bytes g c = from_first (g.S.Source.left c.args.source.now) (λ file. c.read_rest.new.bytes.items ≡ take (c.args.most + 1) file) (rw c.new-bytes.ensures.items at c.in_ok-read_rest.ensures.bytes)

@@ -13,4 +13,4 @@ after_head o a b c d cores workers m n x y p q r s = s ∙ simp (r, q, p, x, y, 
 pub returns : goal.returns
 unfolding head_lines
 returns c = on_ok_weaker c.put_text-2.result
-    (after_head _ _ _ _ _ c.args.cores c.args.workers _ _ c.from.ensures c.from-2.ensures c.in_ok-put_text.ensures.ok c.in_ok-put_count.ensures c.in_ok-put_count-2.ensures) c.put_text-2.ensures.ok
+    (after_head _ _ _ _ _ c.args.cores c.args.workers _ _ c.from.ensures c.from-2.ensures c.in_ok-put_text.ensures.ok c.in_ok-put_count.ensures.ok c.in_ok-put_count-2.ensures.ok) c.put_text-2.ensures.ok

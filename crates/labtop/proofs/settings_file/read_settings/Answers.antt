@@ -1,8 +1,11 @@
-use Rattle.labtop.proofs.SettingsLemmas.{goes_read, never_read, refused_read}
+use Rattle.labtop.proofs.SettingsLemmas.{goes_read, may_read, never_read, refused_read}
 use Rattle.labtop.proofs.settings_file.read_settings.Goals as goal
 
 pub returns-clause-goes : goal.returns-clause-goes
 returns-clause-goes g c = goes_read _ _ c.in_ok-text.text.items _ c.in_ok-text.ensures.there c.in_ok-text.ensures.front (rw c.deref.ensures.value at c.settings_in.ensures.parsed)
+
+pub returns-clause-may : goal.returns-clause-may
+returns-clause-may g c = may_read c.args.name.now c.in_ok-text.text.items _ (rw c.deref.ensures.value at c.settings_in.ensures.parsed)
 
 pub returns-clause-refused : goal.returns-clause-refused
 returns-clause-refused g c = refused_read _ _ c.in_ok-text.text.items _ c.in_ok-text.ensures.there c.in_ok-text.ensures.front (rw c.deref.ensures.value at c.settings_in.ensures.refused)

@@ -1,17 +1,17 @@
-use Rattle.std.proofs.Common.{◌≡◌, ◌⊎◌, subst, sym}
-use Rattle.std.specs.Prelude.{IfSome, MatchOption}
+use Rattle.std.proofs.Common.{◌≡◌, ◌≤◌, ◌⊎◌, subst, sym}
+use Rattle.std.specs.Prelude.{IfSome}
 use Rattle.scap_world.specs.Causes.{Rose}
 use Rattle.scap_world.specs.Files.{file_of}
 use Rattle.scapconf.specs.declared.settings.Settings.{Settings}
 use Rattle.capfilter.specs.Faults.{IsFault}
 use Rattle.capfilter.specs.declared.filter_error.FilterFault.{FilterFault}
-use Rattle.labtop.specs.MatchAnswers.{no_filter, IsWritten, LeavesMatched}
+use Rattle.labtop.specs.MatchAnswers.{no_filter, IsOfMatch, IsWritten, LeavesMatched}
 use Rattle.labtop.specs.Matching.{IsEnd}
 use Rattle.scapconf.specs.declared.status.Status.{Status}
 use Rattle.scapconf.specs.declared.status.Status.TheVariants.{Done, Memory}
-use Rattle.labtop.specs.Answers.{Completes, IsDoneBy, LeavesBy}
+use Rattle.labtop.specs.Answers.{Completes, HasHistory, IsDoneBy, IsOfDrillBy, LeavesBy}
 use Rattle.labtop.specs.Drill.{asked_of}
-use Rattle.labtop.specs.Names.{delivery_name, report_name}
+use Rattle.labtop.specs.Causes.{RoseAtOutputs, RoseAtSettings}
 use Rattle.labtop.specs.Settings.{GoesBy}
 use Rattle.labtop.proofs.AnswerLemmas.{complete_by, neither}
 use Rattle.labtop.proofs.WordsLemmas.{at_drill, at_match, not_output, not_outputs}
@@ -29,16 +29,36 @@ returns-in-Ok-Drill-clause-done g c = at_drill
     c.in-Ok-Drill.settings c.in-Ok-Drill.capture c.in-Ok-Drill.out _ (rw c.in-Ok-Drill.field-0-is at c.in-Ok-Drill.ensures)
     c.drill_by.ensures.done
 
+pub returns-in-Ok-Drill-clause-history : goal.returns-in-Ok-Drill-clause-history
+returns-in-Ok-Drill-clause-history g c = at_drill (λ settings capture out. c.drill_by.result.status ≡ Done → HasHistory settings c.drill_by.result.journal)
+    c.in-Ok-Drill.settings c.in-Ok-Drill.capture c.in-Ok-Drill.out _ (rw c.in-Ok-Drill.field-0-is at c.in-Ok-Drill.ensures)
+    c.drill_by.ensures.history
+
+pub returns-in-Ok-Drill-clause-kinds : goal.returns-in-Ok-Drill-clause-kinds
+returns-in-Ok-Drill-clause-kinds g c = at_drill (λ settings capture out. IsOfDrillBy settings c.drill_by.result.status)
+    c.in-Ok-Drill.settings c.in-Ok-Drill.capture c.in-Ok-Drill.out _ (rw c.in-Ok-Drill.field-0-is at c.in-Ok-Drill.ensures)
+    c.drill_by.ensures.kinds
+
+pub returns-in-Ok-Match-clause-match_kinds : goal.returns-in-Ok-Match-clause-match_kinds
+returns-in-Ok-Match-clause-match_kinds g c = at_match (λ filter capture out. IsOfMatch filter c.without_report.result.status)
+    c.in-Ok-Match.filter c.in-Ok-Match.capture c.in-Ok-Match.out _ (rw c.in-Ok-Match.field-0-is at c.in-Ok-Match.ensures)
+    (subst (IsOfMatch c.in-Ok-Match.filter.now) (sym c.without_report.ensures.status) c.match_by-status.ensures.kinds)
+
+pub returns-in-Ok-Drill-clause-few : goal.returns-in-Ok-Drill-clause-few
+returns-in-Ok-Drill-clause-few g c = at_drill
+    (λ settings capture out. c.drill_by.result.status ≡ Done → IfSome (g.S.Shelf.files c.args.shelf.now) (λ _. g.S.Shelf.taken c.drill_by.new.shelf capture ≤ 16777217))
+    c.in-Ok-Drill.settings c.in-Ok-Drill.capture c.in-Ok-Drill.out _ (rw c.in-Ok-Drill.field-0-is at c.in-Ok-Drill.ensures)
+    c.drill_by.ensures.few
+
 pub returns-in-Ok-Drill-clause-complete : goal.returns-in-Ok-Drill-clause-complete
 returns-in-Ok-Drill-clause-complete g c = at_drill
-    (λ settings capture out. (MatchOption settings ⊥ (λ name. Rose (g.S.Shelf.read_faults c.args.shelf.now name) (g.S.Shelf.read_faults c.drill_by.new.shelf name)) → ⊥)
+    (λ settings capture out. (RoseAtSettings settings (g.S.Shelf.read_faults c.args.shelf.now) (g.S.Shelf.read_faults c.drill_by.new.shelf) → ⊥)
     → (Rose (g.S.Shelf.read_faults c.args.shelf.now capture) (g.S.Shelf.read_faults c.drill_by.new.shelf capture) → ⊥)
-    → (Rose (g.S.Shelf.write_faults c.args.shelf.now (delivery_name out)) (g.S.Shelf.write_faults c.drill_by.new.shelf (delivery_name out)) → ⊥)
-    → (Rose (g.S.Shelf.write_faults c.args.shelf.now (report_name out)) (g.S.Shelf.write_faults c.drill_by.new.shelf (report_name out)) → ⊥)
+    → (RoseAtOutputs out (g.S.Shelf.write_faults c.args.shelf.now) (g.S.Shelf.write_faults c.drill_by.new.shelf) → ⊥)
     → IfSome (g.S.Shelf.files c.args.shelf.now) (λ files. (s : Settings) → GoesBy files settings s → Completes (asked_of s (file_of files capture)) c.drill_by.result.status))
     c.in-Ok-Drill.settings c.in-Ok-Drill.capture c.in-Ok-Drill.out _ (rw c.in-Ok-Drill.field-0-is at c.in-Ok-Drill.ensures)
-    (λ named read delivery report. complete_by _ _ _ _ c.drill_by.ensures.answer
-    (λ e. neither _ _ named (λ h. read h.0) (c.drill_by.ensures.read e)) (λ e. neither _ _ delivery report (c.drill_by.ensures.write e)))
+    (λ named read writing. complete_by _ _ _ _ c.drill_by.ensures.answer
+    (λ e. neither _ _ named (λ h. read h.0) (c.drill_by.ensures.read e)) (λ e. writing (c.drill_by.ensures.write e)))
 
 pub returns-in-Ok-Drill-clause-parts : goal.returns-in-Ok-Drill-clause-parts
 returns-in-Ok-Drill-clause-parts g c = at_drill
