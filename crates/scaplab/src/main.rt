@@ -3,6 +3,9 @@
 //! Stands on labtop (the commands) and scap_world (real files).
 #![tactic(auto)]
 
+ghost use Rattle.std.specs.Prelude.{◌≡◌, ◌⊎◌, ◌++◌, codes, IfOk, MatchResult};
+ghost use Rattle.scapconf.specs.StatusText.{number_of, status_text};
+
 use labtop::lab_top;
 use scap_world::FileShelf;
 use scapconf::{Memory, Status};
@@ -34,16 +37,21 @@ fn run<R: Env + Files<File = File> + AllocGlobal + Drop>(rt: R) -> Result<Status
     Ok(lab_top(alloc, &words, &mut FileShelf::new(rt)).status)
 }
 
-fn line_of(alloc: Global, status: Status) -> Result<Vec<u8>, Memory> {
+/// The line of a status.
+fn line_of(alloc: Global, usage: &str, status: Status) -> Result<Vec<u8>, Memory>
+    ensures { IfOk result (λ line. line.items ≡ status_text usage.now status ++ codes "\n") }
+{
     let mut line = Vec::new(alloc);
-    status.put(USAGE, &mut line)?;
+    status.put(usage, &mut line)?;
     line.push(b'\n')?;
     Ok(line)
 }
 
 /// Prints the status, which is want of memory where there is none for its text.
-fn print(rt: &(impl Print + AllocGlobal), status: Status) -> io::Result<Status> {
-    match line_of(rt.alloc(), status) {
+fn print(rt: &(impl Print + AllocGlobal), status: Status) -> io::Result<Status>
+    ensures { IfOk result (λ printed. (printed ≡ status) ⊎ (printed ≡ Status.Memory)) }
+{
+    match line_of(rt.alloc(), USAGE, status) {
         Ok(line) => {
             io::writer(rt).write_all(&line)?;
             Ok(status)
@@ -55,11 +63,17 @@ fn print(rt: &(impl Print + AllocGlobal), status: Status) -> io::Result<Status> 
     }
 }
 
+/// The number that the program ends with: that of the status that was printed, or of a write fault where it could not be.
+fn exit_status(printed: io::Result<Status>) -> u8
+    ensures { MatchResult printed (λ status. result ≡ number_of status) (λ _. result ≡ number_of Status.WriteFault) }
+{
+    printed.unwrap_or(Status::WriteFault).number()
+}
+
 fn main(rt: HostRuntime) -> ExitCode {
     let status = match run(rt) {
         Ok(status) => status,
         Err(status) => status,
     };
-    let ended = print(&rt, status).unwrap_or(Status::WriteFault);
-    ExitCode::from(ended.number())
+    ExitCode::from(exit_status(print(&rt, status)))
 }
