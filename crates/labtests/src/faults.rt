@@ -1,95 +1,143 @@
-use labcases::{DELIVERY, ONE, REPORT, WORDS, has_files, shelf_with};
-use labtop::lab_top;
-use scap_world::{FailCall, MemShelf, Memory};
-use scapconf::Status;
-use std::alloc::Global;
+use crate::runs::{Command, DRILL, DRILL_BY, Fault, Rest, expect_faults};
+use labcases::{DELIVERY, ONE, REPORT};
+use scap_world::FailCall;
+use scapconf::{SettingsKind, Status};
 use std::test::Fail;
 
-/// A run over files that are read and written 16 bytes at a time, where the nth such call on that name fails.
-fn run_with_fault(
-    alloc: Global,
-    name: &str,
-    call: FailCall,
-    nth: u32,
-) -> Result<(Status, MemShelf), Memory> {
-    let mut shelf = shelf_with(alloc, &ONE)?;
-    shelf.set_piece(16);
-    shelf.fail(name, call, nth)?;
-    let done = lab_top(alloc, &WORDS, &mut shelf);
-    Ok((done.status, shelf))
+const OUTPUTS: [(&str, &str); 2] = [("out.0", DELIVERY), ("out.report", REPORT)];
+
+const OF_NONE: [Rest; 2] = [Rest::Absent, Rest::Absent];
+
+// Read and written 16 bytes at a time: six reads take the capture's 84 bytes, and a seventh tells that there are no
+// more. The delivery file has 71 bytes, so it is written in 5 pieces; the report has 351, so it is written in 22. Of
+// what is not finished the first half stays; behind a delivery file that failed no report is created.
+const OF_DRILL: [Fault; 8] = [
+    ("cap", FailCall::Open, 1, Status::ReadFault, &OF_NONE),
+    ("cap", FailCall::Read, 7, Status::ReadFault, &OF_NONE),
+    ("out.0", FailCall::Create, 1, Status::WriteFault, &OF_NONE),
+    (
+        "out.0",
+        FailCall::Write,
+        5,
+        Status::WriteFault,
+        &[Rest::Pieces, Rest::Absent],
+    ),
+    (
+        "out.0",
+        FailCall::Finish,
+        1,
+        Status::WriteFault,
+        &[Rest::Half, Rest::Absent],
+    ),
+    (
+        "out.report",
+        FailCall::Create,
+        1,
+        Status::WriteFault,
+        &[Rest::Whole, Rest::Absent],
+    ),
+    (
+        "out.report",
+        FailCall::Write,
+        22,
+        Status::WriteFault,
+        &[Rest::Whole, Rest::Pieces],
+    ),
+    (
+        "out.report",
+        FailCall::Finish,
+        1,
+        Status::WriteFault,
+        &[Rest::Whole, Rest::Half],
+    ),
+];
+
+// The settings of ten bytes take one read, and a second tells that there are no more.
+const OF_SETTINGS: [Fault; 2] = [
+    ("set", FailCall::Open, 1, Status::ReadFault, &OF_NONE),
+    ("set", FailCall::Read, 2, Status::ReadFault, &OF_NONE),
+];
+
+#[test]
+fn each_call_of_a_drill_can_fail(rt: HostRuntime) -> Result<(), Fail> {
+    let command = Command {
+        words: &DRILL,
+        files: &[("cap", &ONE)],
+        piece: 16,
+        status: Status::Done,
+        outputs: &OUTPUTS,
+    };
+    expect_faults(&rt, rt.alloc(), &command, &OF_DRILL)
 }
 
 #[test]
-fn a_fault_of_opening_or_reading_creates_no_file(rt: HostRuntime) -> Result<(), Fail> {
-    let alloc = rt.alloc();
-    let (status, shelf) = run_with_fault(alloc, "cap", FailCall::Open, 1)?;
-    assert_eq!(rt; status, Status::ReadFault);
-    assert!(rt; has_files(&shelf, None, None));
-    // Six reads take the capture's 84 bytes, and a seventh tells that there are no more.
-    for nth in 1..8 {
-        let (status, shelf) = run_with_fault(alloc, "cap", FailCall::Read, nth)?;
-        assert_eq!(rt; status, Status::ReadFault, "read {nth}");
-        assert!(rt; has_files(&shelf, None, None));
-    }
-    let (status, shelf) = run_with_fault(alloc, "cap", FailCall::Read, 8)?;
-    assert_eq!(rt; status, Status::Done);
-    assert!(rt; has_files(&shelf, Some(DELIVERY), Some(REPORT)));
-    Ok(())
+fn each_call_of_a_drill_by_settings_can_fail(rt: HostRuntime) -> Result<(), Fail> {
+    let command = Command {
+        words: &DRILL_BY,
+        files: &[("set", b"filter udp"), ("cap", &ONE)],
+        piece: 16,
+        status: Status::Done,
+        outputs: &OUTPUTS,
+    };
+    expect_faults(&rt, rt.alloc(), &command, &OF_SETTINGS)?;
+    expect_faults(&rt, rt.alloc(), &command, &OF_DRILL)
 }
 
 #[test]
-fn a_fault_of_creating_or_writing_leaves_a_front(rt: HostRuntime) -> Result<(), Fail> {
-    let alloc = rt.alloc();
-    let (status, shelf) = run_with_fault(alloc, "out.0", FailCall::Create, 1)?;
-    assert_eq!(rt; status, Status::WriteFault);
-    assert!(rt; has_files(&shelf, None, None));
-    let (status, shelf) = run_with_fault(alloc, "out.report", FailCall::Create, 1)?;
-    assert_eq!(rt; status, Status::WriteFault);
-    assert!(rt; has_files(&shelf, Some(DELIVERY), None));
-    // The delivery file has 71 bytes, so it is written in 5 pieces; the report has 351, so it is written in 22.
-    for nth in 1..6u32 {
-        let (status, shelf) = run_with_fault(alloc, "out.0", FailCall::Write, nth)?;
-        assert_eq!(rt; status, Status::WriteFault, "write {nth}");
-        assert!(rt; has_files(&shelf, DELIVERY.get(..16 * (nth as usize - 1)), None));
-    }
-    for nth in 1..23u32 {
-        let (status, shelf) = run_with_fault(alloc, "out.report", FailCall::Write, nth)?;
-        assert_eq!(rt; status, Status::WriteFault, "write {nth}");
-        assert!(rt;
-            has_files(
-                &shelf,
-                Some(DELIVERY),
-                REPORT.get(..16 * (nth as usize - 1))
-            )
-        );
-    }
-    for (name, nth) in [("out.0", 6), ("out.report", 23)] {
-        let (status, shelf) = run_with_fault(alloc, name, FailCall::Write, nth)?;
-        assert_eq!(rt; status, Status::Done, "{name}");
-        assert!(rt; has_files(&shelf, Some(DELIVERY), Some(REPORT)));
-    }
-    Ok(())
+fn settings_that_cannot_be_read_come_before_their_fault(rt: HostRuntime) -> Result<(), Fail> {
+    let command = Command {
+        words: &DRILL_BY,
+        files: &[("set", b"chunk 0"), ("cap", &ONE)],
+        piece: 65_536,
+        status: Status::Settings {
+            line: 1,
+            kind: SettingsKind::Number,
+        },
+        outputs: &[],
+    };
+    expect_faults(&rt, rt.alloc(), &command, &OF_SETTINGS)
 }
 
-#[test]
-fn a_file_that_is_not_finished_is_a_write_fault(rt: HostRuntime) -> Result<(), Fail> {
-    let alloc = rt.alloc();
-    // Of what is not finished the first half stays; behind a delivery file that failed no report is created.
-    let (status, shelf) = run_with_fault(alloc, "out.0", FailCall::Finish, 1)?;
-    assert_eq!(rt; status, Status::WriteFault);
-    assert!(rt; has_files(&shelf, DELIVERY.get(..35), None));
-    let (status, shelf) = run_with_fault(alloc, "out.report", FailCall::Finish, 1)?;
-    assert_eq!(rt; status, Status::WriteFault);
-    assert!(rt; has_files(&shelf, Some(DELIVERY), REPORT.get(..175)));
-    Ok(())
-}
+const OF_MATCH: [Rest; 1] = [Rest::Absent];
 
 #[test]
-fn a_missing_capture_is_a_read_fault(rt: HostRuntime) -> Result<(), Fail> {
-    let alloc = rt.alloc();
-    let mut shelf = MemShelf::new(alloc);
-    let done = lab_top(alloc, &WORDS, &mut shelf);
-    assert_eq!(rt; done.status, Status::ReadFault);
-    assert!(rt; has_files(&shelf, None, None));
-    Ok(())
+fn each_call_of_a_match_can_fail(rt: HostRuntime) -> Result<(), Fail> {
+    let reads: [Fault; 2] = [
+        ("cap", FailCall::Open, 1, Status::ReadFault, &OF_MATCH),
+        ("cap", FailCall::Read, 7, Status::ReadFault, &OF_MATCH),
+    ];
+    let writes: [Fault; 3] = [
+        (
+            "out.match",
+            FailCall::Create,
+            1,
+            Status::WriteFault,
+            &OF_MATCH,
+        ),
+        (
+            "out.match",
+            FailCall::Write,
+            2,
+            Status::WriteFault,
+            &[Rest::Pieces],
+        ),
+        (
+            "out.match",
+            FailCall::Finish,
+            1,
+            Status::WriteFault,
+            &[Rest::Half],
+        ),
+    ];
+    let mut command = Command {
+        words: &["scaplab", "match", "udp", "cap", "out"],
+        files: &[("cap", &ONE)],
+        piece: 16,
+        status: Status::Done,
+        outputs: &[("out.match", "1\n")],
+    };
+    expect_faults(&rt, rt.alloc(), &command, &reads)?;
+    // Written a byte at a time.
+    command.piece = 1;
+    expect_faults(&rt, rt.alloc(), &command, &writes)
 }
