@@ -2,9 +2,14 @@
 """Measures layers below the commands by `layerbench`, which works in memory and tells its own time.
 
 `frames`: a capture of 100,000 records and one of 200,000 are read by the reader of captures, in pieces of 1, 1,500 and
-65,536 bytes. `hash`: 50,000,000 bytes are hashed at once. `cores`: the cores of 1,000,000 keys are found. The time is
-the best of the runs. Ends with 1 where a run fails, not all records and bytes came, or a hash or core is not that of
-toeplitz.py, which is compared on shorter runs.
+65,536 bytes. `hash`: 50,000,000 bytes are hashed at once. `cores`: the cores of 1,000,000 keys are found. `ring`:
+1,000,000 numbers pass from one thread to another through a ring of 1, 16 and 256 places. `word` and `locked`: 1, 2 and
+4 threads ask the budget word, and a plain budget behind a lock, 1,000,000 times each, and release at once what is
+granted. `dues`: moments are set for 10,000, 100,000 and 1,000,000 ids, set anew, and taken out as they fall due.
+
+The time is the best of the runs. Ends with 1 where a run fails, not all records, bytes, numbers and moments came in
+their order, a plain budget or the word in one thread refused an ask, or a hash or core is not that of toeplitz.py,
+which is compared on shorter runs.
 """
 
 import argparse
@@ -19,7 +24,7 @@ import toeplitz
 
 HERE = pathlib.Path(__file__).resolve().parent
 PROGRAM = HERE.parent / "crates" / "layerbench" / "out" / "layerbench"
-RUNS = 3
+RUNS = 5
 RECORDS = (100_000, 200_000)
 LENGTH = 100
 PIECES = (1, 1_500, 65_536)
@@ -29,10 +34,15 @@ HASHED_BOTH = 20_001
 KEYS = 1_000_000
 KEYS_BOTH = 1_000
 CORES = 16
+ITEMS = 1_000_000
+PLACES = (1, 16, 256)
+ASKS = 1_000_000
+THREADS = (1, 2, 4)
+IDS = (10_000, 100_000, 1_000_000)
 
 
-def measured(program, words, want=None):
-    """The least nanoseconds of the runs, whose first line has to be the one that is wanted, if any."""
+def best_run(program, words, want=None):
+    """The least nanoseconds of the runs, with that run's first line, which has to be the one that is wanted, if any."""
     best = None
     for _ in range(RUNS):
         run = subprocess.run([program, *map(str, words), "timed"], capture_output=True, text=True, check=False)
@@ -40,8 +50,12 @@ def measured(program, words, want=None):
         if run.returncode != 0 or len(lines) != 2 or want not in (None, lines[0]):
             sys.exit(f"layerbench {words}: status {run.returncode}, {lines[:1]} in place of {want!r}")
         nanos = int(lines[1].split()[1])
-        best = nanos if best is None else min(best, nanos)
+        best = (nanos, lines[0]) if best is None else min(best, (nanos, lines[0]))
     return best
+
+
+def measured(program, words, want=None):
+    return best_run(program, words, want)[0]
 
 
 def print_row(cells):
@@ -77,12 +91,52 @@ def bench_hash(program):
     print(f"cores: {nanos / KEYS:.1f} ns/key")
 
 
+def bench_rings(program):
+    print_row(("places", "items", "seconds", "ns/item", "million items/s"))
+    print_row(["--:"] * 5)
+    for places in PLACES:
+        nanos = measured(program, ("ring", ITEMS, places), f"right {ITEMS}")
+        print_row((places, ITEMS, f"{nanos / 1e9:.4f}", f"{nanos / ITEMS:.1f}", f"{ITEMS * 1e3 / nanos:.2f}"))
+
+
+def bench_budgets(program):
+    print_row(("budget", "threads", "asks", "granted", "seconds", "ns/ask", "million asks and releases/s"))
+    print_row(["--:"] * 7)
+    for threads in THREADS:
+        for budget in ("word", "locked"):
+            asks = threads * ASKS
+            want = f"granted {asks}" if budget == "locked" or threads == 1 else None
+            nanos, line = best_run(program, (budget, threads, ASKS), want)
+            granted = int(line.split()[1])
+            if not 0 < granted <= asks:
+                sys.exit(f"layerbench {budget}: {granted} of {asks} asks were granted")
+            print_row((
+                budget, threads, asks, granted, f"{nanos / 1e9:.4f}", f"{nanos / asks:.1f}",
+                f"{(asks + granted) * 1e3 / nanos:.2f}",
+            ))
+
+
+def bench_dues(program):
+    print_row(("ids", "seconds", "ns/id", "growth"))
+    print_row(["--:"] * 4)
+    before = None
+    for ids in IDS:
+        nanos = measured(program, ("dues", ids), f"in order {ids}")
+        print_row((ids, f"{nanos / 1e9:.4f}", f"{nanos / ids:.0f}", "" if before is None else f"{nanos / before:.1f}"))
+        before = nanos
+
+
+BENCHES = {"frames": bench_frames, "hash": bench_hash, "rings": bench_rings, "budgets": bench_budgets, "dues": bench_dues}
+
+
 def main():
     parser = argparse.ArgumentParser(description=__doc__)
     parser.add_argument("program", nargs="?", default=PROGRAM, type=pathlib.Path)
-    program = parser.parse_args().program
-    bench_frames(program)
-    bench_hash(program)
+    parser.add_argument("--only", action="append", choices=BENCHES, help="may be given several times; all where it is not")
+    words = parser.parse_args()
+    for name in words.only or BENCHES:
+        BENCHES[name](words.program)
+        print()
 
 
 if __name__ == "__main__":

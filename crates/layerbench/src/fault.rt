@@ -40,6 +40,24 @@ impl From<pcapfile::Memory> for Fault {
     }
 }
 
+impl From<evring::Memory> for Fault {
+    fn from(_: evring::Memory) -> Self {
+        Fault::Memory
+    }
+}
+
+impl From<prio_budget::Memory> for Fault {
+    fn from(_: prio_budget::Memory) -> Self {
+        Fault::Memory
+    }
+}
+
+impl From<deadlines::Memory> for Fault {
+    fn from(_: deadlines::Memory) -> Self {
+        Fault::Memory
+    }
+}
+
 impl From<io::Error> for Fault {
     fn from(_: io::Error) -> Self {
         Fault::Outside

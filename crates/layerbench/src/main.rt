@@ -1,16 +1,22 @@
-//! The layers below the commands at work, for the scripts of bench/: `frames RECORDS LENGTH PIECE`, `hash BYTES` or
-//! `cores KEYS`. It prints what came of it, and where the word `timed` follows the nanoseconds that the work took.
-//! Stands on pcapfile and streamkey.
+//! The layers below the commands at work, for the scripts of bench/: `frames RECORDS LENGTH PIECE`, `hash BYTES`, `cores KEYS`,
+//! `ring ITEMS PLACES`, `word THREADS ASKS`, `locked THREADS ASKS` or `dues IDS`; `each` does a little of each.
+//! It prints what came of it, and where the last word is `timed` the nanoseconds that the work took.
+//! Stands on pcapfile, streamkey, evring, prio_budget and deadlines.
 #![tactic(auto)]
 
+mod budgets;
+mod dues;
 mod fault;
 mod frames;
 mod hashes;
+mod rings;
 
 use fault::Fault;
 use std::env;
 use std::process::ExitCode;
 use std::rt::{Clock, Env};
+use std::sync::Wait;
+use std::thread::Threads;
 use std::time::Instant;
 use streamkey::toeplitz;
 
@@ -22,6 +28,11 @@ fn number(words: &[String], at: usize) -> Result<usize, Fault> {
     }
 }
 
+/// The same, below 2^32.
+fn short_number(words: &[String], at: usize) -> Result<u32, Fault> {
+    u32::try_from(number(words, at)?).map_err(|_| Fault::Words)
+}
+
 fn has_word(words: &[String], at: usize, text: &str) -> bool {
     match words.get(at) {
         Some(word) => word.as_str() == text,
@@ -29,56 +40,145 @@ fn has_word(words: &[String], at: usize, text: &str) -> bool {
     }
 }
 
-fn print_time(rt: &impl Print, words: &[String], at: usize, nanos: u128) -> Result<(), Fault> {
-    if has_word(words, at, "timed") {
-        println!(rt; "nanoseconds {nanos}")?;
-    }
-    Ok(())
-}
-
-/// Reads a written capture in pieces of some size, and prints how many records and bytes came.
-fn bench_frames<R: Print + Clock + AllocGlobal>(rt: &R, words: &[String]) -> Result<(), Fault> {
-    let capture = frames::written(rt.alloc(), number(words, 1)?, number(words, 2)?)?;
-    let size = number(words, 3)?;
+/// Reads a written capture in pieces of some size. Tells the nanoseconds.
+fn bench_frames<R: Print + Clock + AllocGlobal>(
+    rt: &R,
+    records: usize,
+    len: usize,
+    piece: usize,
+) -> Result<u128, Fault> {
+    let capture = frames::written(rt.alloc(), records, len)?;
     let start = Instant::now(rt)?;
-    let sums = frames::read(rt.alloc(), &capture, size)?;
+    let sums = frames::read(rt.alloc(), &capture, piece)?;
     let nanos = start.elapsed(rt)?.as_nanos();
     println!(rt; "records {} bytes {}", sums.records, sums.bytes)?;
-    print_time(rt, words, 4, nanos)
+    Ok(nanos)
 }
 
 /// Hashes so many bytes at once.
-fn bench_hash<R: Print + Clock + AllocGlobal>(rt: &R, words: &[String]) -> Result<(), Fault> {
-    let input = hashes::bytes(rt.alloc(), number(words, 1)?)?;
+fn bench_hash<R: Print + Clock + AllocGlobal>(rt: &R, bytes: usize) -> Result<u128, Fault> {
+    let input = hashes::bytes(rt.alloc(), bytes)?;
     let start = Instant::now(rt)?;
     let hash = toeplitz(&input);
     let nanos = start.elapsed(rt)?.as_nanos();
     println!(rt; "hash {hash}")?;
-    print_time(rt, words, 2, nanos)
+    Ok(nanos)
 }
 
 /// Finds the cores of so many keys.
-fn bench_cores<R: Print + Clock>(rt: &R, words: &[String]) -> Result<(), Fault> {
-    let keys = number(words, 1)?;
+fn bench_cores<R: Print + Clock>(rt: &R, keys: usize) -> Result<u128, Fault> {
     let start = Instant::now(rt)?;
     let sum = hashes::cores(keys);
     let nanos = start.elapsed(rt)?.as_nanos();
     println!(rt; "sum {sum}")?;
-    print_time(rt, words, 2, nanos)
+    Ok(nanos)
 }
 
-fn run<R: Print + Env + Clock + AllocGlobal>(rt: &R) -> Result<(), Fault> {
-    let words: Vec<String> = env::args(rt)?.skip(1).collect(rt.alloc())?;
-    if has_word(&words, 0, "frames") {
-        return bench_frames(rt, &words);
+/// Passes so many numbers through a ring from one thread to another.
+fn bench_ring<R: Print + Clock + AllocGlobal + Threads + Wait + Sync>(
+    rt: &R,
+    items: usize,
+    places: usize,
+) -> Result<u128, Fault> {
+    let start = Instant::now(rt)?;
+    let right = rings::pass(rt, rt.alloc(), items as u64, places)?;
+    let nanos = start.elapsed(rt)?.as_nanos();
+    println!(rt; "right {right}")?;
+    Ok(nanos)
+}
+
+/// Asks the budget word in so many threads.
+fn bench_word<R: Print + Clock + AllocGlobal + Threads + Sync>(
+    rt: &R,
+    threads: usize,
+    asks: u32,
+) -> Result<u128, Fault> {
+    let start = Instant::now(rt)?;
+    let grants = budgets::word(rt, rt.alloc(), threads, asks)?;
+    let nanos = start.elapsed(rt)?.as_nanos();
+    println!(rt; "granted {grants}")?;
+    Ok(nanos)
+}
+
+/// Asks a plain budget behind a lock in so many threads.
+fn bench_locked<R: Print + Clock + Threads + Wait + Sync>(
+    rt: &R,
+    threads: usize,
+    asks: u32,
+) -> Result<u128, Fault> {
+    let start = Instant::now(rt)?;
+    let grants = budgets::locked(rt, threads, asks)?;
+    let nanos = start.elapsed(rt)?.as_nanos();
+    println!(rt; "granted {grants}")?;
+    Ok(nanos)
+}
+
+/// Sets moments for so many ids, sets them anew, and takes them out as they fall due.
+fn bench_dues<R: Print + Clock + AllocGlobal>(rt: &R, ids: u32) -> Result<u128, Fault> {
+    let start = Instant::now(rt)?;
+    let right = dues::in_order(rt.alloc(), ids)?;
+    let nanos = start.elapsed(rt)?.as_nanos();
+    println!(rt; "in order {right}")?;
+    Ok(nanos)
+}
+
+/// Does a little of each. What it prints is always the same.
+fn bench_each<R: Print + Clock + AllocGlobal + Threads + Wait + Sync>(
+    rt: &R,
+) -> Result<u128, Fault> {
+    let mut nanos = bench_frames(rt, 1_000, 60, 1_500)?;
+    nanos = nanos.saturating_add(bench_hash(rt, 20_001)?);
+    nanos = nanos.saturating_add(bench_cores(rt, 1_000)?);
+    nanos = nanos.saturating_add(bench_ring(rt, 10_000, 16)?);
+    nanos = nanos.saturating_add(bench_word(rt, 1, 10_000)?);
+    nanos = nanos.saturating_add(bench_locked(rt, 4, 10_000)?);
+    Ok(nanos.saturating_add(bench_dues(rt, 1_000)?))
+}
+
+/// Does what the words ask for, of what works in one thread.
+fn bench_alone<R: Print + Clock + AllocGlobal>(rt: &R, words: &[String]) -> Result<u128, Fault> {
+    if has_word(words, 0, "frames") {
+        return bench_frames(rt, number(words, 1)?, number(words, 2)?, number(words, 3)?);
     }
-    if has_word(&words, 0, "hash") {
-        return bench_hash(rt, &words);
+    if has_word(words, 0, "hash") {
+        return bench_hash(rt, number(words, 1)?);
     }
-    if has_word(&words, 0, "cores") {
-        return bench_cores(rt, &words);
+    if has_word(words, 0, "cores") {
+        return bench_cores(rt, number(words, 1)?);
+    }
+    if has_word(words, 0, "dues") {
+        return bench_dues(rt, short_number(words, 1)?);
     }
     Err(Fault::Words)
+}
+
+/// Does what the words ask for.
+fn bench<R: Print + Clock + AllocGlobal + Threads + Wait + Sync>(
+    rt: &R,
+    words: &[String],
+) -> Result<u128, Fault> {
+    if has_word(words, 0, "each") {
+        return bench_each(rt);
+    }
+    if has_word(words, 0, "ring") {
+        return bench_ring(rt, number(words, 1)?, number(words, 2)?);
+    }
+    if has_word(words, 0, "word") {
+        return bench_word(rt, number(words, 1)?, short_number(words, 2)?);
+    }
+    if has_word(words, 0, "locked") {
+        return bench_locked(rt, number(words, 1)?, short_number(words, 2)?);
+    }
+    bench_alone(rt, words)
+}
+
+fn run<R: Print + Env + Clock + AllocGlobal + Threads + Wait + Sync>(rt: &R) -> Result<(), Fault> {
+    let words: Vec<String> = env::args(rt)?.skip(1).collect(rt.alloc())?;
+    let nanos = bench(rt, &words)?;
+    if has_word(&words, words.len().saturating_sub(1), "timed") {
+        println!(rt; "nanoseconds {nanos}")?;
+    }
+    Ok(())
 }
 
 fn main(rt: HostRuntime) -> ExitCode {
