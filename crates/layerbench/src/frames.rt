@@ -1,11 +1,9 @@
 use crate::Fault;
-use pcapfile::{FileHead, Frame, Frames, Next, put_frame, put_head};
+use pcapfile::{
+    FileHead, Frame, Frames, HEAD_SIZE, LONGEST_RECORD, MOST_BYTES, MOST_RECORDS, Next, put_frame,
+    put_head,
+};
 use std::alloc::Global;
-
-/// The most records and bytes of a capture that is read.
-const MOST_RECORDS: u32 = 4_194_304;
-
-const MOST_BYTES: u64 = 4_294_967_296;
 
 /// What came of a capture.
 #[derive(Clone, Copy)]
@@ -24,7 +22,7 @@ impl Sums {
 
 /// A written capture of so many records of so many bytes.
 pub fn written(alloc: Global, records: usize, len: usize) -> Result<Vec<u8>, Fault> {
-    if len > 262_144 {
+    if len > LONGEST_RECORD as usize {
         return Err(Fault::Words);
     }
     let bytes = vec![in alloc; 7; len]?;
@@ -49,7 +47,7 @@ pub fn read(alloc: Global, capture: &[u8], size: usize) -> Result<Sums, Fault> {
         records: 0,
         bytes: 0,
     };
-    for piece in capture[24..].chunks(size) {
+    for piece in capture[HEAD_SIZE..].chunks(size) {
         frames.feed(piece)?;
         take_records(&mut frames, piece.len(), &mut sums)?;
     }
