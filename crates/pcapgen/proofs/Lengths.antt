@@ -1,5 +1,6 @@
 use Rattle.std.proofs.Common.{◌≡◌, ℕ, ◌+◌, ◌≤◌, Bool, true, false, if◌then◌else◌, List, ◌++◌, length, nat_eq, refl, arith, length-append}
 use Rattle.std.proofs.lemmas.List.FromFn.{length-map-range_with_len}
+use Rattle.pcapfile.specs.Written.{written_frame}
 use Rattle.pcapgen.specs.declared.draws.Drawn.{Drawn}
 use Rattle.pcapgen.specs.Flows.{is_tcp}
 use Rattle.pcapgen.specs.Frame.{byte_at, client, server, tcp_header, udp_header, ip_header, ethernet_header, transport_header, payload, frame}
@@ -38,3 +39,9 @@ frame_short d begin h =
     let three : length (ethernet_header ++ ip_header d) ≡ 14 + length (ip_header d) = length-append ethernet_header (ip_header d) in
     let four : length (payload d begin) ≡ d.len = length-map-range_with_len (byte_at d) begin d.len in
     omega (arith, one, two, three, four, length-ip d, short_transport (is_tcp d.flow) d begin, h)
+
+-- a record's header has 16 bytes
+pub record_short : (seconds fraction : ℕ) (bytes : List ℕ) → length bytes ≤ 254 → length (written_frame seconds fraction bytes) ≤ 270
+record_short seconds fraction bytes h =
+    let all : length (written_frame seconds fraction bytes) ≡ 16 + length bytes = simp length-append refl in
+    omega (arith, all, h)

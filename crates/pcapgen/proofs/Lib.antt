@@ -1,3 +1,4 @@
 pub mod Lengths
 pub mod Payload
 pub mod Steps
+pub mod WritingLemmas

@@ -3,3 +3,4 @@ pub mod Flows
 pub mod Frame
 pub mod Kept
 pub mod Made
+pub mod Writing

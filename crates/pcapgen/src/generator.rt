@@ -6,12 +6,10 @@ ghost use Rattle.pcapgen.specs.Made.{made_record};
 use crate::draws::draw_record;
 use crate::flow::{begin_of, reached};
 use crate::headers::put_frame;
+use crate::limits::{LONGEST_MADE, MOST_RECORDS};
 use crate::{Drawn, Memory};
 use std::alloc::Global;
 use std::marker::Model;
-
-/// The most records that one generator puts.
-pub const MOST_RECORDS: u32 = 1_000_000;
 
 /// Makes the records of a seed, one after the other.
 #[derive(Debug, Drop)]
@@ -25,7 +23,7 @@ pub struct Generator {
 impl Model for Generator {
     ghost use Rattle.std.specs.Prelude.{◌≤◌};
     ghost use Rattle.pcapgen.specs.Kept.{Kept, IsBounded};
-    ghost use Rattle.pcapgen.specs.declared.generator.TheConstants.{MOST_RECORDS};
+    ghost use Rattle.pcapgen.specs.declared.limits.TheConstants.{MOST_RECORDS};
 
     ghost Value = { Kept };
 
@@ -66,11 +64,13 @@ impl Generator {
     }
 
     /// Appends the next record by what is kept.
+    #[tactic(auto, using(crate::proofs::Lengths::record_short))]
     fn put_by_kept(&mut self, out: &mut Vec<u8>) -> Result<(), Memory>
         requires { self.old.number < MOST_RECORDS }
         ensures ok { OnOk result (out.new.items ≡ out.old.items ++ next_record self.old) }
         ensures kept { OnOk result (self.new ≡ behind self.old) }
         ensures full { length self.old.sent ≡ 128 }
+        ensures short { OnOk result (length out.new.items ≤ length out.old.items + LONGEST_MADE) }
         ensures err { OnErr result (out.new.items ≡ out.old.items) }
         ensures same { OnErr result (self.new ≡ self.old) }
     {
@@ -89,12 +89,13 @@ impl Generator {
         Ok(())
     }
 
-    /// Appends the next record, header and frame, at most 270 bytes.
+    /// Appends the next record, header and frame.
     pub fn put_next(&mut self, out: &mut Vec<u8>) -> Result<(), Memory>
         requires { self.old.number < MOST_RECORDS }
         ensures ok { OnOk result ((seed i : ℕ) → StandsFor seed i self.old
             → (out.new.items ≡ out.old.items ++ made_record seed i) × StandsFor seed (suc i) self.new) }
         ensures number { OnOk result (self.new.number ≡ self.old.number + 1) }
+        ensures short { OnOk result (length out.new.items ≤ length out.old.items + LONGEST_MADE) }
         ensures err { OnErr result (out.new.items ≡ out.old.items) }
         ensures same { OnErr result (self.new ≡ self.old) }
     {

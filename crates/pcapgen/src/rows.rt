@@ -1,11 +1,11 @@
 //! What the definition draws and makes for two seeds, worked out by hand, by computation.
 #![tactic(auto, unfolding(crate::specs::Draws::next, crate::specs::Draws::below, crate::specs::Flows::begin_of, crate::specs::Flows::reached))]
 
-ghost use Rattle.std.specs.Prelude.{◌≡◌};
+ghost use Rattle.std.specs.Prelude.{◌≡◌, ◌+◌};
 ghost use Rattle.pcapgen.specs.Draws.{drawn_at};
 ghost use Rattle.pcapgen.specs.Flows.{begin_at};
 ghost use Rattle.pcapgen.specs.Frame.{source, target};
-ghost use Rattle.pcapgen.specs.declared.generator.TheConstants.{MOST_RECORDS};
+ghost use Rattle.pcapgen.specs.declared.limits.TheConstants.{BUFFER_SIZE, LONGEST_MADE, MOST_RECORDS};
 
 /// The first three records of seed 0: TCP leaves 75 bytes out, TCP again, and UDP.
 pub fn records_of_seed_0()
@@ -26,7 +26,9 @@ pub fn records_of_seed_7()
     ensures server { (source (drawn_at 7 0)).port ≡ 80 }
 {}
 
-/// A million records are the most.
-pub fn the_most_records()
-    ensures { MOST_RECORDS ≡ 1000000 }
+/// A million records are the most; the longest has a header of 16 bytes, headers of 54 and a payload of 200; at most 64 KiB wait.
+pub fn the_sizes()
+    ensures records { MOST_RECORDS ≡ 1000000 }
+    ensures longest { LONGEST_MADE ≡ 16 + 54 + 200 }
+    ensures waiting { BUFFER_SIZE ≡ 65536 }
 {}

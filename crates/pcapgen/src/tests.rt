@@ -1,6 +1,7 @@
 ghost use Rattle.std.specs.Prelude.{◌≤◌};
 
-use crate::{Generator, Memory};
+use crate::{Generator, Memory, write_made};
+use scap_world::{MemShelf, Shelf, WorldFault};
 use std::alloc::Global;
 
 /// The first record of seed 0: way 1 of flow 62, whose server has port 443; the payload begins at position 75.
@@ -39,6 +40,30 @@ fn file_of(alloc: Global, seed: u64, count: u32) -> Result<Vec<u8>, Memory>
     Ok(out)
 }
 
+/// The file that is written of them.
+fn written_of(alloc: Global, seed: u64, count: u32) -> Result<Vec<u8>, WorldFault>
+    requires { count ≤ 1000000 }
+{
+    let mut shelf = MemShelf::new(alloc);
+    let mut sink = shelf.create("made")?;
+    write_made(alloc, &mut sink, seed, count)?;
+    if shelf.finish("made", sink).is_err() {
+        return Err(WorldFault::Failed);
+    }
+    match shelf.file("made") {
+        Some(bytes) => Ok(Vec::from_slice(alloc, bytes)?),
+        None => Err(WorldFault::Failed),
+    }
+}
+
+/// Whether it has that length and digest.
+fn has_sum<E: Drop>(file: Result<Vec<u8>, E>, len: usize, sum: u64) -> bool {
+    match file {
+        Ok(bytes) => bytes.len() == len && digest(&bytes) == sum,
+        Err(_) => false,
+    }
+}
+
 #[test]
 fn files_are_those_worked_out(rt: HostRuntime) {
     // Length and digest, worked out by another program from the format's words.
@@ -49,12 +74,8 @@ fn files_are_those_worked_out(rt: HostRuntime) {
         (u64::MAX, 500, 82344, 0x5673_15ed_2441_482b),
     ];
     for (seed, count, len, sum) in rows {
-        let file = file_of(rt.alloc(), seed, count);
-        let is_right = match &file {
-            Ok(bytes) => bytes.len() == len && digest(bytes) == sum,
-            Err(_) => false,
-        };
-        assert!(rt; is_right);
+        assert!(rt; has_sum(file_of(rt.alloc(), seed, count), len, sum));
+        assert!(rt; has_sum(written_of(rt.alloc(), seed, count), len, sum));
     }
 }
 
