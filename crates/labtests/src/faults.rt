@@ -4,8 +4,6 @@ use scap_world::FailCall;
 use scapconf::{SettingsKind, Status};
 use std::test::Fail;
 
-const OUTPUTS: [(&str, &str); 2] = [("out.0", DELIVERY), ("out.report", REPORT)];
-
 const OF_NONE: [Rest; 2] = [Rest::Absent, Rest::Absent];
 
 // Read and written 16 bytes at a time: six reads take the capture's 84 bytes, and a seventh tells that there are no
@@ -65,7 +63,10 @@ fn each_call_of_a_drill_can_fail(rt: HostRuntime) -> Result<(), Fail> {
         files: &[("cap", &ONE)],
         piece: 16,
         status: Status::Done,
-        outputs: &OUTPUTS,
+        outputs: &[
+            ("out.0", DELIVERY.as_bytes()),
+            ("out.report", REPORT.as_bytes()),
+        ],
     };
     expect_faults(&rt, rt.alloc(), &command, &OF_DRILL)
 }
@@ -77,7 +78,10 @@ fn each_call_of_a_drill_by_settings_can_fail(rt: HostRuntime) -> Result<(), Fail
         files: &[("set", b"filter udp"), ("cap", &ONE)],
         piece: 16,
         status: Status::Done,
-        outputs: &OUTPUTS,
+        outputs: &[
+            ("out.0", DELIVERY.as_bytes()),
+            ("out.report", REPORT.as_bytes()),
+        ],
     };
     expect_faults(&rt, rt.alloc(), &command, &OF_SETTINGS)?;
     expect_faults(&rt, rt.alloc(), &command, &OF_DRILL)
@@ -134,7 +138,7 @@ fn each_call_of_a_match_can_fail(rt: HostRuntime) -> Result<(), Fail> {
         files: &[("cap", &ONE)],
         piece: 16,
         status: Status::Done,
-        outputs: &[("out.match", "1\n")],
+        outputs: &[("out.match", b"1\n")],
     };
     expect_faults(&rt, rt.alloc(), &command, &reads)?;
     // Written a byte at a time.

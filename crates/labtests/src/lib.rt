@@ -13,6 +13,8 @@ mod faults;
 #[cfg(test)]
 mod large;
 #[cfg(test)]
+mod makes;
+#[cfg(test)]
 mod matches;
 #[cfg(test)]
 mod refusals;

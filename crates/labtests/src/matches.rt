@@ -117,7 +117,7 @@ fn a_capture_that_ends_badly_has_its_matches(rt: HostRuntime) -> Result<(), Fail
             files: &[("cap", &capture)],
             piece: 65_536,
             status,
-            outputs: &[("out.match", "1\n")],
+            outputs: &[("out.match", b"1\n")],
         };
         expect_faults(&rt, rt.alloc(), &command, &OF_CREATE)?;
     }

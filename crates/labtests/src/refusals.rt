@@ -144,7 +144,7 @@ const WORDS: [(&[&str], Status); 17] = [
     (&["scaplab", "drill", "cap", "-out"], Status::Usage),
     (&["scaplab", "drill", "out.0", "out"], Status::Usage),
     (&["scaplab", "drill", "out.report", "out"], Status::Usage),
-    (&["scaplab", "make", "1", "2", "cap"], Status::Unbuilt),
+    (&["scaplab", "audit"], Status::Unbuilt),
     (&["scaplab", "audit", "cap", "out"], Status::Unbuilt),
     (
         &["scaplab", "drill", "cap", "out", "--seed"],

@@ -179,7 +179,7 @@ pub struct Command<'a> {
     pub files: &'a [(&'a str, &'a [u8])],
     pub piece: usize,
     pub status: Status,
-    pub outputs: &'a [(&'a str, &'a str)],
+    pub outputs: &'a [(&'a str, &'a [u8])],
 }
 
 /// What a call that failed leaves of an output.
@@ -250,16 +250,15 @@ fn failing(
 }
 
 /// Whether these rests of the outputs are there, where so many bytes were written of one that failed.
-fn leaves(shelf: &MemShelf, outputs: &[(&str, &str)], rests: &[Rest], front: usize) -> bool {
-    outputs.iter().zip(rests).all(|((name, text), rest)| is_left(
+fn leaves(shelf: &MemShelf, outputs: &[(&str, &[u8])], rests: &[Rest], front: usize) -> bool {
+    outputs.iter().zip(rests).all(|((name, bytes), rest)| is_left(
         shelf,
         name,
-        &rest_of(text, *rest, front),
+        &rest_of(bytes, *rest, front),
     ))
 }
 
-fn rest_of(text: &str, rest: Rest, front: usize) -> Left<'_> {
-    let bytes = text.as_bytes();
+fn rest_of(bytes: &[u8], rest: Rest, front: usize) -> Left<'_> {
     match rest {
         Rest::Absent => Left::Absent,
         Rest::Whole => Left::Bytes(bytes),

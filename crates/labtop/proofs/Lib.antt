@@ -16,3 +16,4 @@ pub mod AnswerLemmas
 pub mod MatchingLemmas
 pub mod MatchLemmas
 pub mod MatchByLemmas
+pub mod MakeLemmas

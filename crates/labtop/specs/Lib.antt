@@ -13,5 +13,6 @@ pub mod Rows
 pub mod Matching
 pub mod Matched
 pub mod MatchAnswers
+pub mod MakeAnswers
 pub mod Heads
 pub mod Kinds

@@ -1,6 +1,9 @@
-use Rattle.std.specs.Prelude.{ℕ, ◌≡◌, List, [], ◌∷◌, Bool, false, ◌&&◌, ◌||◌, not, nat_eq, codes, if◌then◌else◌, Option, Some, None}
+use Rattle.std.specs.Prelude.{ℕ, ◌≡◌, ◌≤◌, ◌-◌, ◌^◌, List, [], ◌∷◌, Bool, false, ◌&&◌, ◌||◌, not, nat_eq, nat_lt, codes, if◌then◌else◌, Option, Some, None}
 use Rattle.std.specs.Borrow.{Bor}
 use Rattle.std.specs.Str.{bytes_eq}
+use Rattle.pcapgen.specs.declared.limits.TheConstants.{MOST_RECORDS}
+use Rattle.textout.specs.Numbers.{number}
+use Rattle.labtop.specs.declared.limits.TheConstants.{MOST_DIGITS}
 use Rattle.labtop.specs.Names.{delivery_name, report_name, match_name}
 use Rattle.labtop.specs.declared.words.Asked.{Asked}
 use Rattle.labtop.specs.declared.words.Asked.TheVariants as asked
@@ -11,6 +14,7 @@ use Rattle.labtop.specs.declared.words.Asked.TheVariants as asked
 pub data Command : Type 0 where
   Drill : (settings : Option (List ℕ)) → (capture out : List ℕ) → Command
   Match : (filter capture out : List ℕ) → Command
+  Make : (seed count : ℕ) → (capture : List ℕ) → Command
   Wrong : Command
   Later : Command
 
@@ -26,7 +30,7 @@ is_positional (c ∷ cs) = not (nat_eq c 45)
 
 -- the commands that are not built yet
 unfoldable pub is_later_command : List ℕ → Bool
-is_later_command word = bytes_eq word (codes "make") || bytes_eq word (codes "audit")
+is_later_command word = bytes_eq word (codes "audit")
 
 -- the options of drill that are not built yet
 unfoldable pub is_later_option : List ℕ → Bool
@@ -73,6 +77,27 @@ match_words (filter ∷ capture ∷ []) = Wrong
 match_words (filter ∷ capture ∷ out ∷ []) = if is_match filter capture out then Match filter capture out else Wrong
 match_words (filter ∷ capture ∷ out ∷ more ∷ words) = Wrong
 
+-- a number of 64 bits, and one of records: in decimal digits, zeros may lead
+unfoldable pub seed_in : List ℕ → Option ℕ
+seed_in word = number 10 MOST_DIGITS (2 ^ 64 - 1) word
+
+unfoldable pub count_in : List ℕ → Option ℕ
+count_in word = number 10 MOST_DIGITS MOST_RECORDS word
+
+-- at least one record is made
+abbrev pub make_of : (seed count : Option ℕ) → (capture : List ℕ) → Command
+make_of None count capture = Wrong
+make_of (Some seed) None capture = Wrong
+make_of (Some seed) (Some count) capture = if nat_lt 0 count && is_positional capture then Make seed count capture else Wrong
+
+-- `SEED COUNT CAPTURE`
+abbrev pub make_words : List (List ℕ) → Command
+make_words [] = Wrong
+make_words (seed ∷ []) = Wrong
+make_words (seed ∷ count ∷ []) = Wrong
+make_words (seed ∷ count ∷ capture ∷ []) = make_of (seed_in seed) (count_in count) capture
+make_words (seed ∷ count ∷ capture ∷ more ∷ words) = Wrong
+
 -- a command and its words, behind the program's name; what is not built yet comes before what is wrong
 abbrev pub command_of : List (List ℕ) → Command
 command_of [] = Wrong
@@ -80,19 +105,24 @@ command_of (program ∷ []) = Wrong
 command_of (program ∷ command ∷ words) =
     if is_later_command command then Later else
     if bytes_eq command (codes "drill") then (if has_later words then Later else drill_words words) else
-    if bytes_eq command (codes "match") then match_words words else Wrong
+    if bytes_eq command (codes "match") then match_words words else
+    if bytes_eq command (codes "make") then make_words words else Wrong
 
--- something holds of the words of a drill, and of a match
+-- something holds of the words of a drill, of a match, and of a make
 abbrev pub OfDrill : List (Bor (List ℕ)) → (Option (List ℕ) → (capture out : List ℕ) → Type 0) → Type 0
 OfDrill words P = (settings : Option (List ℕ)) (capture out : List ℕ) → command_of (texts words) ≡ Drill settings capture out → P settings capture out
 
 abbrev pub OfMatch : List (Bor (List ℕ)) → ((filter capture out : List ℕ) → Type 0) → Type 0
 OfMatch words P = (filter capture out : List ℕ) → command_of (texts words) ≡ Match filter capture out → P filter capture out
 
+abbrev pub OfMake : List (Bor (List ℕ)) → ((seed count : ℕ) → (capture : List ℕ) → Type 0) → Type 0
+OfMake words P = (seed count : ℕ) (capture : List ℕ) → command_of (texts words) ≡ Make seed count capture → P seed count capture
+
 -- the files that a command creates
 abbrev pub outputs_of : Command → List (List ℕ)
 outputs_of (Drill settings capture out) = delivery_name out ∷ report_name out ∷ []
 outputs_of (Match filter capture out) = match_name out ∷ []
+outputs_of (Make seed count capture) = capture ∷ []
 outputs_of Wrong = []
 outputs_of Later = []
 
@@ -105,6 +135,7 @@ told_word (Some word) = Some word.now
 abbrev pub Means : Asked → Command → Type 0
 Means (asked.Drill s c o) (Drill settings capture out) = (told_word s ≡ settings) × (c.now ≡ capture) × (o.now ≡ out)
 Means (asked.Match f c o) (Match filter capture out) = (f.now ≡ filter) × (c.now ≡ capture) × (o.now ≡ out)
+Means (asked.Make s n c) (Make seed count capture) = (s ≡ seed) × (n ≡ count) × (n ≤ MOST_RECORDS) × (c.now ≡ capture)
 Means asked.Wrong Wrong = Unit {0}
 Means asked.Later Later = Unit {0}
 Means _ _ = ⊥

@@ -18,7 +18,7 @@ use scap_world::{Shelf, Sink, Source, WorldFault, write_whole};
 use scapconf::Status;
 use std::alloc::{AllocError, Global};
 
-fn status_of_write(fault: WorldFault) -> Status
+pub(crate) fn status_of_write(fault: WorldFault) -> Status
     ensures { result ≡ writes_status fault }
 {
     match fault {

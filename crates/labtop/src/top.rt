@@ -1,22 +1,25 @@
 ghost use Rattle.std.specs.Prelude.{◌≡◌, ◌≢◌, ◌⊎◌, ◌≤◌, true, ℕ, List, All, IfSome, Option};
 ghost use Rattle.scap_world.specs.Causes.{Rose};
-ghost use Rattle.scap_world.specs.Files.{file_of, told_file};
+ghost use Rattle.scap_world.specs.Files.{file_of, told_file, told_put};
 ghost use Rattle.scapconf.specs.declared.settings.Settings.{Settings};
 ghost use Rattle.capfilter.specs.Faults.{IsFault};
 ghost use Rattle.capfilter.specs.declared.filter_error.FilterFault.{FilterFault};
+ghost use Rattle.pcapgen.specs.Made.{made_file};
 ghost use Rattle.labtop.specs.Names.{match_name};
 ghost use Rattle.labtop.specs.Causes.{RoseAtOutputs, RoseAtSettings};
 ghost use Rattle.labtop.specs.Drill.{asked_of};
-ghost use Rattle.labtop.specs.Answers.{By, Completes, HasHistory, IsAnswer, IsBefore, IsDoneBy, IsOfDrillBy, LeavesBy};
+ghost use Rattle.labtop.specs.Answers.{By, Completes, HasHistory, IsAnswer, IsBefore, IsDoneBy, IsOfDrillBy, IsPart, LeavesBy};
 ghost use Rattle.labtop.specs.Headline.{IsEmpty};
 ghost use Rattle.labtop.specs.Heads.{IsBehindHead};
+ghost use Rattle.labtop.specs.MakeAnswers.{CompletesMake, IsOfMake};
 ghost use Rattle.labtop.specs.MatchAnswers.{no_filter, CompletesMatched, IsMatchAnswer, IsOfMatch, IsWritten, LeavesMatched};
 ghost use Rattle.labtop.specs.Matching.{IsEnd};
 ghost use Rattle.labtop.specs.Settings.{GoesBy, is_built};
-ghost use Rattle.labtop.specs.Words.{command_of, outputs_of, texts, OfDrill, OfMatch, Wrong, Later};
+ghost use Rattle.labtop.specs.Words.{command_of, outputs_of, texts, OfDrill, OfMake, OfMatch, Wrong, Later};
 
 use crate::LabDone;
 use crate::drill::drill_by;
+use crate::make_run::make_run;
 use crate::match_by::match_by;
 use crate::words::{Asked, asked_in};
 use scap_world::Shelf;
@@ -95,6 +98,22 @@ pub fn lab_top<S: Shelf>(alloc: Global, words: &[&str], shelf: &mut S) -> LabDon
         → (Rose (S.write_faults shelf.old (match_name out)) (S.write_faults shelf.new (match_name out)) → ⊥)
         → IfSome (S.files shelf.old) (λ files. CompletesMatched files filter capture result.status)) }
 
+    // A make is done, or answers a fault of the outside.
+    ensures make_kinds { OfMake words.now (λ seed count capture. IsOfMake result.status) }
+    ensures make_journal { OfMake words.now (λ seed count capture. IsEmpty result.journal) }
+
+    // Where it is done its capture is the made one; whatever the status, it is as it was or holds a front of that.
+    ensures make_written { OfMake words.now (λ seed count capture. result.status ≡ Status.Done
+        → S.files shelf.new ≡ told_put capture (made_file seed count) (S.files shelf.old)) }
+    ensures make_parts { OfMake words.now (λ seed count capture.
+        IsPart (made_file seed count) (told_file (S.files shelf.old) capture) (told_file (S.files shelf.new) capture)) }
+
+    // A fault of writing was counted where it is answered, and where none was it is done, or there was no memory.
+    ensures make_write { OfMake words.now (λ seed count capture. result.status ≡ Status.WriteFault
+        → Rose (S.write_faults shelf.old capture) (S.write_faults shelf.new capture)) }
+    ensures make_complete { OfMake words.now (λ seed count capture.
+        (Rose (S.write_faults shelf.old capture) (S.write_faults shelf.new capture) → ⊥) → CompletesMake result.status) }
+
     // What was opened is ended, and what was created is finished.
     ensures open_files { S.open_files shelf.new ≡ S.open_files shelf.old }
 {
@@ -114,6 +133,16 @@ pub fn lab_top<S: Shelf>(alloc: Global, words: &[&str], shelf: &mut S) -> LabDon
             },
         ) => {
             let status = match_by(alloc, filter, capture, out, shelf);
+            LabDone::without_report(alloc, status)
+        }
+        Ok(
+            Asked::Make {
+                seed,
+                count,
+                capture,
+            },
+        ) => {
+            let status = make_run(alloc, seed, count, capture, shelf);
             LabDone::without_report(alloc, status)
         }
         Ok(Asked::Wrong) => LabDone::without_report(alloc, Status::Usage),

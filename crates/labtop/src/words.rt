@@ -1,9 +1,12 @@
 // The words of the command line.
-ghost use Rattle.std.specs.Prelude.{◌≡◌, IfOk};
-ghost use Rattle.labtop.specs.Words.{Means, command_of, drill_of, drill_words, has_later, is_drill, is_later_command, is_later_option, is_match, is_option, is_output, is_positional, match_words, texts, told_word};
+ghost use Rattle.std.specs.Prelude.{◌≡◌, ◌≤◌, IfOk, IfSome};
+ghost use Rattle.labtop.specs.Words.{Means, command_of, count_in, drill_of, drill_words, has_later, is_drill, is_later_command, is_later_option, is_match, is_option, is_output, is_positional, make_of, make_words, match_words, seed_in, texts, told_word};
 
+use crate::limits::MOST_DIGITS;
 use crate::names::{name_of_delivery, name_of_match, name_of_report};
+use pcapgen::MOST_RECORDS;
 use std::alloc::{AllocError, Global};
+use textout::read_number;
 
 /// What the words ask for.
 #[derive(Clone, Copy)]
@@ -17,6 +20,11 @@ pub(crate) enum Asked<'a> {
         filter: &'a str,
         capture: &'a str,
         out: &'a str,
+    },
+    Make {
+        seed: u64,
+        count: u32,
+        capture: &'a str,
     },
     Wrong,
     Later,
@@ -35,7 +43,7 @@ fn can_be_positional(word: &str) -> bool
 fn is_command_of_later(word: &str) -> bool
     ensures { result ≡ is_later_command word.now }
 {
-    word == "make" || word == "audit"
+    word == "audit"
 }
 
 #[tactic(auto, unfolding(crate::specs::Words::is_later_option))]
@@ -161,6 +169,54 @@ fn match_asked<'a>(alloc: Global, words: &[&'a str]) -> Result<Asked<'a>, AllocE
     }
 }
 
+#[tactic(auto, unfolding(crate::specs::Words::seed_in))]
+fn seed_in(word: &str) -> Option<u64>
+    ensures { result ≡ seed_in word.now }
+{
+    read_number(word.as_bytes(), 10, MOST_DIGITS, u64::MAX)
+}
+
+#[tactic(auto, unfolding(crate::specs::Words::count_in))]
+fn count_in(word: &str) -> Option<u64>
+    ensures count { result ≡ count_in word.now }
+    ensures few { IfSome result (λ n. n ≤ MOST_RECORDS) }
+{
+    read_number(word.as_bytes(), 10, MOST_DIGITS, u64::from(MOST_RECORDS))
+}
+
+/// A make by its three words.
+fn make_in<'a>(seed: &str, count: &str, capture: &'a str) -> Asked<'a>
+    ensures { Means result (make_of (seed_in seed.now) (count_in count.now) capture.now) }
+{
+    let Some(seed) = seed_in(seed) else {
+        return Asked::Wrong;
+    };
+    let Some(count) = count_in(count) else {
+        return Asked::Wrong;
+    };
+    if count > 0 && can_be_positional(capture) {
+        Asked::Make {
+            seed,
+            count: count as u32,
+            capture,
+        }
+    } else {
+        Asked::Wrong
+    }
+}
+
+fn make_asked<'a>(words: &[&'a str]) -> Asked<'a>
+    ensures { Means result (make_words (texts words.now)) }
+{
+    match words {
+        [] => Asked::Wrong,
+        [_] => Asked::Wrong,
+        [_, _] => Asked::Wrong,
+        [seed, count, capture] => make_in(seed, count, capture),
+        [_, _, _, _, ..] => Asked::Wrong,
+    }
+}
+
 /// What the words ask for.
 pub(crate) fn asked_in<'a>(alloc: Global, words: &[&'a str]) -> Result<Asked<'a>, AllocError>
     ensures { IfOk result (λ a. Means a (command_of (texts words.now))) }
@@ -179,6 +235,9 @@ pub(crate) fn asked_in<'a>(alloc: Global, words: &[&'a str]) -> Result<Asked<'a>
     }
     if *command == "match" {
         return match_asked(alloc, rest);
+    }
+    if *command == "make" {
+        return Ok(make_asked(rest));
     }
     Ok(Asked::Wrong)
 }
