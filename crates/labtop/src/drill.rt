@@ -1,8 +1,9 @@
 // From a capture to its files.
-ghost use Rattle.std.specs.Prelude.{◌≡◌, ◌≢◌, ◌⊎◌, ◌≤◌, ℕ, List, true, false, IfErr, IfSome, OnOk, IsErrOf};
+ghost use Rattle.std.specs.Prelude.{◌≡◌, ◌≢◌, ◌⊎◌, ◌≤◌, ◌+◌, ℕ, List, true, false, IfErr, IfSome, OnOk, IsErrOf};
 ghost use Rattle.histbook.specs.Moves.{IsBudgetHistory};
 ghost use Rattle.scap_world.specs.Causes.{Rose};
 ghost use Rattle.scap_world.specs.Files.{file_of, told_file, told_put};
+ghost use Rattle.labtop.specs.declared.limits.TheConstants.{MOST_BUILT};
 ghost use Rattle.labtop.specs.Names.{delivery_name, report_name};
 ghost use Rattle.labtop.specs.Causes.{RoseAtOutputs, RoseAtSettings};
 ghost use Rattle.labtop.specs.Drill.{asked_of};
@@ -63,7 +64,7 @@ fn drill_with<S: Shelf>(
     ensures verdict { IfSome (S.files shelf.old) (λ files. Allows (asked_of settings.now (file_of files capture.now)) result.status) }
     ensures kinds { IsOfDrill result.status }
     ensures unbuilt { is_built settings.now ≡ false → (result.status ≡ Status.Unbuilt) × (shelf.new ≡ shelf.old) }
-    ensures few { result.status ≡ Status.Done → IfSome (S.files shelf.old) (λ _. S.taken shelf.new capture.now ≤ 16777217) }
+    ensures few { result.status ≡ Status.Done → IfSome (S.files shelf.old) (λ _. S.taken shelf.new capture.now ≤ MOST_BUILT + 1) }
     ensures done { result.status ≡ Status.Done → IfSome (S.files shelf.old)
         (λ files. IsDone (terms_of settings.now) (asked_of settings.now (file_of files capture.now)) out.now result.journal (S.files shelf.old) (S.files shelf.new)) }
     ensures history { result.status ≡ Status.Done → IsBudgetHistory settings.now.set.marks.limit result.journal }
@@ -116,7 +117,7 @@ pub fn drill_run<S: Shelf>(
     ensures unbuilt { is_built settings ≡ false → (result.status ≡ Status.Unbuilt) × (shelf.new ≡ shelf.old) }
 
     // Of the capture one byte more than the most is taken, where it is done.
-    ensures few { result.status ≡ Status.Done → IfSome (S.files shelf.old) (λ _. S.taken shelf.new capture.now ≤ 16777217) }
+    ensures few { result.status ≡ Status.Done → IfSome (S.files shelf.old) (λ _. S.taken shelf.new capture.now ≤ MOST_BUILT + 1) }
 
     // Where it is done, the journal is lawful, its budget's history is one, and the two files are its texts.
     ensures done { result.status ≡ Status.Done → IfSome (S.files shelf.old)
@@ -162,7 +163,7 @@ pub(crate) fn drill_by<S: Shelf>(
     ensures answer { IfSome (S.files shelf.old) (λ files. IsAnswer files (told_word settings.entry) capture.now result.status) }
     ensures kinds { IsOfDrillBy (told_word settings.entry) result.status }
     ensures history { result.status ≡ Status.Done → HasHistory (told_word settings.entry) result.journal }
-    ensures few { result.status ≡ Status.Done → IfSome (S.files shelf.old) (λ _. S.taken shelf.new capture.now ≤ 16777217) }
+    ensures few { result.status ≡ Status.Done → IfSome (S.files shelf.old) (λ _. S.taken shelf.new capture.now ≤ MOST_BUILT + 1) }
     ensures done { result.status ≡ Status.Done → IfSome (S.files shelf.old)
         (λ files. IsDoneBy files (told_word settings.entry) capture.now out.now result.journal (S.files shelf.old) (S.files shelf.new)) }
     ensures journal { result.status ≢ Status.Done → IsEmpty result.journal }

@@ -1,10 +1,11 @@
-ghost use Rattle.std.specs.Prelude.{◌≡◌, ◌≢◌, ◌⊎◌, ◌≤◌, true, ℕ, List, All, IfSome, Option};
+ghost use Rattle.std.specs.Prelude.{◌≡◌, ◌≢◌, ◌⊎◌, ◌≤◌, ◌+◌, true, ℕ, List, All, IfSome, Option};
 ghost use Rattle.scap_world.specs.Causes.{Rose};
 ghost use Rattle.scap_world.specs.Files.{file_of, told_file, told_put};
 ghost use Rattle.scapconf.specs.declared.settings.Settings.{Settings};
 ghost use Rattle.capfilter.specs.Faults.{IsFault};
 ghost use Rattle.capfilter.specs.declared.filter_error.FilterFault.{FilterFault};
 ghost use Rattle.pcapgen.specs.Made.{made_file};
+ghost use Rattle.labtop.specs.declared.limits.TheConstants.{MOST_BUILT};
 ghost use Rattle.labtop.specs.Names.{match_name};
 ghost use Rattle.labtop.specs.Causes.{RoseAtOutputs, RoseAtSettings};
 ghost use Rattle.labtop.specs.Drill.{asked_of};
@@ -62,7 +63,7 @@ pub fn lab_top<S: Shelf>(alloc: Global, words: &[&str], shelf: &mut S) -> LabDon
 
     // Of the capture one byte more than the most is taken, where it is done.
     ensures few { OfDrill words.now (λ settings capture out. result.status ≡ Status.Done
-        → IfSome (S.files shelf.old) (λ _. S.taken shelf.new capture ≤ 16777217)) }
+        → IfSome (S.files shelf.old) (λ _. S.taken shelf.new capture ≤ MOST_BUILT + 1)) }
 
     // A fault was counted where it is answered: of the settings first, and of the capture where the settings are built and its
     // head isn't refused.

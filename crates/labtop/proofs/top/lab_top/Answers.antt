@@ -1,4 +1,4 @@
-use Rattle.std.proofs.Common.{◌≡◌, ◌≤◌, ◌⊎◌, rules, subst, sym}
+use Rattle.std.proofs.Common.{◌≡◌, ◌+◌, ◌≤◌, ◌⊎◌, rules, subst, sym}
 use Rattle.std.specs.Prelude.{IfSome}
 use Rattle.scap_world.specs.Causes.{Rose}
 use Rattle.scap_world.specs.Files.{file_of, told_file, told_put}
@@ -18,6 +18,7 @@ use Rattle.labtop.specs.Settings.{GoesBy}
 use Rattle.labtop.proofs.AnswerLemmas.{complete_by, neither}
 use Rattle.labtop.proofs.MakeLemmas.{complete_make, not_before}
 use Rattle.labtop.proofs.WordsLemmas.{at_drill, at_make, at_match, make_few, not_made, not_output, not_outputs}
+use Rattle.labtop.specs.declared.limits.TheConstants.{MOST_BUILT}
 use Rattle.labtop.proofs.top.lab_top.Goals as goal
 
 pub returns-in-Ok-Drill-clause-others : goal.returns-in-Ok-Drill-clause-others
@@ -49,7 +50,7 @@ returns-in-Ok-Match-clause-match_kinds g c = at_match (λ filter capture out. Is
 
 pub returns-in-Ok-Drill-clause-few : goal.returns-in-Ok-Drill-clause-few
 returns-in-Ok-Drill-clause-few g c = at_drill
-    (λ settings capture out. c.drill_by.result.status ≡ Done → IfSome (g.S.Shelf.files c.args.shelf.now) (λ _. g.S.Shelf.taken c.drill_by.new.shelf capture ≤ 16777217))
+    (λ settings capture out. c.drill_by.result.status ≡ Done → IfSome (g.S.Shelf.files c.args.shelf.now) (λ _. g.S.Shelf.taken c.drill_by.new.shelf capture ≤ MOST_BUILT + 1))
     c.in-Ok-Drill.settings c.in-Ok-Drill.capture c.in-Ok-Drill.out _ (rw c.in-Ok-Drill.field-0-is at c.in-Ok-Drill.ensures)
     c.drill_by.ensures.few
 
