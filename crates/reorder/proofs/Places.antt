@@ -1,5 +1,5 @@
 -- What bisection finds among parts, and what is done there.
-use Rattle.std.specs.Prelude.{◌≡◌, refl, ⊤, ◌⊎◌, ℕ, suc, ◌+◌, ◌-◌, ◌<◌, ◌≤◌, ◌^◌, Bool, true, false, cond, nat_lt, List, [], ◌∷◌, ◌++◌, length, map, take, drop, min, max, ℤ, None, slice_get, nat_le}
+use Rattle.std.specs.Prelude.{◌≡◌, refl, ◌⊎◌, ℕ, suc, ◌+◌, ◌-◌, ◌<◌, ◌≤◌, ◌^◌, Bool, true, false, cond, nat_lt, List, [], ◌∷◌, ◌++◌, length, take, drop, min, max, ℤ, None, slice_get, nat_le}
 use Prim.Native.Nat.{zero}
 use Rattle.std.specs.List.{insert}
 use Rattle.std.proofs.Common.{sym, ◌∙◌, ap, subst, arith, inl, inr, append-nil, get_or, set}

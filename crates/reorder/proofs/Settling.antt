@@ -1,10 +1,9 @@
 -- A later segment's bytes over one part, run by run of its starts.
-use Rattle.std.specs.Prelude.{◌≡◌, refl, ℕ, suc, ◌+◌, ◌-◌, ◌<◌, ◌≤◌, Bool, true, false, cond, nat_lt, nat_le, List, [], ◌∷◌, ◌++◌, length, map, take, drop, min, Option, Some, None, ℤ, slice_get}
+use Rattle.std.specs.Prelude.{◌≡◌, refl, ℕ, suc, ◌+◌, ◌-◌, ◌<◌, ◌≤◌, Bool, true, false, cond, nat_lt, nat_le, List, [], ◌∷◌, ◌++◌, length, take, drop, min, Option, Some, None, ℤ, slice_get}
 use Prim.Native.Nat.{zero}
-use Rattle.std.proofs.Common.{sym, ◌∙◌, ap, subst, arith, append-nil, append_assoc, length-append, get_or, set}
+use Rattle.std.proofs.Common.{sym, ◌∙◌, ap, arith, append-nil, append_assoc, length-append, get_or, set}
 use Rattle.std.proofs.Math.Seq.{drop-cons}
 use Rattle.std.proofs.lemmas.Bool.Decides.{nat_tests}
-use Rattle.std.proofs.lemmas.Grind.{common_steps}
 use Rattle.std.proofs.lemmas.List.{length-set, take_all, take_at, drop_at, map-append, length-take-le, length-map, length-drop, take-append-drop, drop-drop, get_or-drop}
 use Rattle.std.proofs.lemmas.List.Edits.{paste_none, paste_more}
 use Rattle.overpolicy.specs.declared.policy.Policy.{Policy}

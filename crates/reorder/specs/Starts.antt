@@ -1,9 +1,9 @@
 -- How a part keeps the starts of its bytes: as runs of neighbours with one start.
-use Rattle.std.specs.Prelude.{ℕ, ◌+◌, ◌-◌, cond, nat_lt, min, List, [], ◌∷◌, ◌++◌, take, drop, ℤ}
+use Rattle.std.specs.Prelude.{◌≡◌, ⊤, ℕ, ◌+◌, ◌-◌, cond, nat_lt, min, List, [], ◌∷◌, ◌++◌, length, take, drop, ℤ}
 use Rattle.overpolicy.specs.Winner.{wins}
 use Rattle.reorder.specs.declared.start_run.StartRun.{StartRun}
 use Rattle.reorder.specs.declared.over.Over.{Over}
-use Rattle.reorder.specs.Frags.{Cell, cells_of}
+use Rattle.reorder.specs.Frags.{Cell, Frag, cells_of, cells_with, bytes_in}
 
 -- how many bytes runs have
 abbrev pub run_bytes : List StartRun → ℕ
@@ -48,3 +48,15 @@ bytes_with over later at (r ∷ rs) bytes = run_bytes_with over later at r bytes
 -- bytes of which so many, from a place on, are others
 abbrev pub written : List ℕ → ℕ → List ℕ → ℕ → List ℕ
 written bytes place others n = take place bytes ++ take n others ++ drop (place + n) bytes
+
+-- runs that have, of the bytes of a part with those of a later segment that win, the starts that these have
+pub record AreSettled {C : Type 0} (over : Over) (f : Frag C) (rs : List StartRun) : Type 0 where
+  pub counted : run_bytes rs ≡ length f.cells
+  pub starts : (later : List ℕ) → over.to ≡ over.from + length later
+      → cells_in rs (bytes_in (cells_with over.policy over.start over.from later f.at f.cells)) ≡ cells_with over.policy over.start over.from later f.at f.cells
+
+-- of parts, one after the other
+abbrev pub AllSettled : {C : Type 0} → Over → List (Frag C) → List (List StartRun) → Type 0
+AllSettled over fs [] = ⊤
+AllSettled over [] (rs ∷ more) = ⊥
+AllSettled over (f ∷ fs) (rs ∷ more) = AreSettled over f rs × AllSettled over fs more

@@ -1,6 +1,8 @@
-ghost use Rattle.std.specs.Prelude.{◌≡◌, ◌+◌, ◌<◌, ◌≤◌, ◌^◌, length, OnOk, OnErr};
-ghost use Rattle.reorder.specs.Frags.{end_of, cells_of, cells_with, bytes_in};
+ghost use Rattle.std.specs.Prelude.{◌≡◌, ◌+◌, ◌≤◌, ◌^◌, length, IfOk};
+ghost use Rattle.reorder.specs.Frags.{end_of, cells_of, bytes_in, overlaid_one};
+ghost use Rattle.reorder.specs.Starts.{AreSettled};
 
+use crate::new_starts::NewStarts;
 use crate::over::Over;
 use crate::settlement::{settled_runs, write_runs};
 use crate::start_run::StartRun;
@@ -70,19 +72,26 @@ impl<C: Charge> Held<C> {
         self.part
     }
 
-    /// Settles overlap with a later segment's bytes. At want of memory nothing changes.
-    pub(crate) fn overlay(&mut self, alloc: Global, over: Over, bytes: &[u8]) -> Result<(), Memory>
-        requires { over.to ≡ over.from + length bytes.now }
-        ensures ok { OnOk result (self.new ≡ record self.old { cells = cells_with over.policy over.start over.from bytes.now self.old.at self.old.cells }) }
-        ensures err { OnErr result (self.new ≡ self.old) }
+    /// The starts of its bytes once a later segment's are settled.
+    pub(crate) fn settled(&self, alloc: Global, over: Over) -> Result<NewStarts, Memory>
+        requires { over.from ≤ over.to }
+        ensures { IfOk result (λ starts. AreSettled over self.now starts) }
     {
         let made = settled_runs(alloc, over, self.at, self.first, &self.more)?;
+        Ok(NewStarts::of(made))
+    }
+
+    /// Settles overlap with a later segment's bytes, of which the new starts are there. It takes no memory.
+    pub(crate) fn settle(&mut self, over: Over, bytes: &[u8], starts: NewStarts)
+        requires to { over.to ≡ over.from + length bytes.now }
+        requires starts { AreSettled over self.old starts }
+        ensures { self.new ≡ overlaid_one over.policy over.start over.from bytes.now self.old }
+    {
         write_runs(&mut self.part, over, bytes, self.at, self.first, &self.more);
         self.first = StartRun {
             len: 0,
             start: over.start,
         };
-        self.more = made;
-        Ok(())
+        self.more = starts.into_vec();
     }
 }

@@ -1,8 +1,8 @@
 //! What a store's parts mean by positions, each law as the contract of a function that does nothing.
-ghost use Rattle.std.specs.Prelude.{◌≡◌, ℕ, ℤ, ◌+◌, ◌<◌, ◌^◌, List, length, map, filter, not};
+ghost use Rattle.std.specs.Prelude.{◌≡◌, ℕ, ℤ, ◌+◌, ◌<◌, ◌≤◌, ◌^◌, List, ◌∷◌, ◌++◌, length, map, filter, not, All};
 ghost use Rattle.overpolicy.specs.declared.policy.Policy.{Policy};
 ghost use Rattle.streamdefs.specs.Reorder.{Charge as Paid, placed_from, put_run, settled, stands_in, stretches};
-ghost use Rattle.reorder.specs.Frags.{Frag, Ascends, EndBy, IsClear, end_of, free, overlaid, put, run_in, spread, spread_one};
+ghost use Rattle.reorder.specs.Frags.{Frag, Ascends, BeginsAt, EndBy, IsClear, end_of, free, overlaid, put, run_in, size, spread, spread_one};
 
 use crate::Store;
 use prio_budget::Charge;
@@ -34,6 +34,19 @@ pub fn each_held_position_is_settled<C: Charge>(store: &Store<C>)
 pub fn a_part_adds_its_positions<C: Charge>(store: &Store<C>)
     ensures { (paid : C → Paid) (f : Frag C) → IsClear f.at (end_of f) store.now.frags → 0 < length f.cells
         → spread paid (put f store.now.frags) ≡ put_run (spread_one paid f) (spread paid store.now.frags) }
+{
+    parts_rise(store);
+}
+
+/// As many bytes are held as positions stand for the parts.
+pub fn each_byte_has_its_position<C: Charge>(store: &Store<C>)
+    ensures { (paid : C → Paid) → length (spread paid store.now.frags) ≡ size store.now.frags }
+{}
+
+/// The positions of the first part come before all others, and what stays without it are the others.
+pub fn the_first_part_has_the_first_positions<C: Charge>(store: &Store<C>)
+    ensures rest { (paid : C → Paid) (f : Frag C) (rest : List (Frag C)) → store.now.frags ≡ f ∷ rest → spread paid store.now.frags ≡ spread_one paid f ++ spread paid rest }
+    ensures least { (paid : C → Paid) (at : ℕ) → BeginsAt at store.now.frags → All (λ p. at ≤ p.at) (spread paid store.now.frags) }
 {
     parts_rise(store);
 }

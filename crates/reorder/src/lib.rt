@@ -7,6 +7,7 @@ mod covered;
 mod gaps;
 mod held;
 pub mod laws;
+mod new_starts;
 mod over;
 mod run;
 mod runs;

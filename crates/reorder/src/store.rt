@@ -57,7 +57,7 @@ impl<C: Charge> Store<C> {
     }
 
     /// Settles overlap for each held position that these bytes cover, which stand from a position on. `start` is that of their
-    /// segment. At want of memory the first parts are settled, and the others are as they were.
+    /// segment. At want of memory nothing changes.
     pub fn overlay(
         &mut self,
         alloc: Global,
@@ -67,7 +67,7 @@ impl<C: Charge> Store<C> {
         policy: Policy,
     ) -> Result<(), Memory>
         ensures ok { OnOk result (self.new.frags ≡ overlaid policy start from bytes.now self.old.frags) }
-        ensures err { OnErr result ((n : ℕ) × (self.new.frags ≡ overlaid policy start from bytes.now (take n self.old.frags) ++ drop n self.old.frags)) }
+        ensures err { OnErr result (self.new ≡ self.old) }
         ensures room { self.new.room ≡ self.old.room }
         ensures weight { (w : C → ℕ) → weight_in w self.new.frags ≡ weight_in w self.old.frags }
         ensures places { (low : ℕ) → Ascends low self.old.frags → Ascends low self.new.frags }

@@ -184,6 +184,51 @@ fn overlap_is_settled_by_the_policies(rt: HostRuntime) -> Result<(), Fail> {
     Ok(())
 }
 
+/// Five bytes at 5 and at 15 are held when a segment brings those of 0 to 24. Its first run is granted at 4,090 used bytes, the
+/// second is not, and so neither is the third; overlap is settled behind them all the same. Gives the bytes of the parts.
+fn two_holes(alloc: Global, policy: Policy) -> Result<Vec<u8>, Fail> {
+    let mut store = Store::new(alloc);
+    for at in [15, 5] {
+        let segment = Segment {
+            at,
+            len: 5,
+            byte: b'a',
+        };
+        arrive(alloc, &mut store, segment, Policy::First)?;
+    }
+    let Ok(runs) = store.uncovered(alloc, 0, 25) else {
+        return Err("out of memory".into());
+    };
+    let wanted = [
+        Run { at: 0, len: 5 },
+        Run { at: 10, len: 5 },
+        Run { at: 20, len: 5 },
+    ];
+    if runs.as_slice() != &wanted[..] {
+        return Err("other runs".into());
+    }
+    if store.overlay(alloc, 0, 0, &[b'b'; 25], policy).is_err() {
+        return Err("out of memory".into());
+    }
+    put(alloc, &mut store, 0, 0, part(alloc, 5, b'b', 4090)?)?;
+    taken(alloc, &mut store)
+}
+
+#[test]
+fn overlap_is_settled_behind_a_refused_run(rt: HostRuntime) -> Result<(), Fail> {
+    let rows = [
+        (Policy::First, "bbbbbaaaaa|aaaaa"),
+        (Policy::Last, "bbbbbbbbbb|bbbbb"),
+        (Policy::Bsd, "bbbbbbbbbb|bbbbb"),
+        (Policy::Linux, "bbbbbbbbbb|bbbbb"),
+    ];
+    for (policy, text) in rows {
+        let found = two_holes(rt.alloc(), policy)?;
+        assert_eq!(rt; found.as_slice(), text.as_bytes());
+    }
+    Ok(())
+}
+
 #[test]
 fn a_segment_over_two_parts_has_three_runs(rt: HostRuntime) -> Result<(), Fail> {
     let alloc = rt.alloc();

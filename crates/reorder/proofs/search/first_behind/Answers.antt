@@ -1,4 +1,4 @@
-use Rattle.std.proofs.Common.{◌≡◌, ◌+◌, ◌-◌, ◌/◌, ◌<◌, ℕ, length, arith, rules}
+use Rattle.std.proofs.Common.{◌+◌, ◌-◌, ◌/◌, ◌<◌, ℕ, length, arith, rules}
 use Rattle.reorder.proofs.Places.{ends_at}
 use Rattle.reorder.proofs.search.first_behind.Goals as goal
 

@@ -1,7 +1,7 @@
-use Rattle.std.proofs.Common.{◌≡◌, ◌+◌, ◌∷◌, ◌≤◌, sym, ◌∙◌, ap, arith, drop, take, length, get_or, pos, ◌++◌, rules}
+use Rattle.std.proofs.Common.{◌≡◌, ◌+◌, ◌∷◌, ◌≤◌, sym, ◌∙◌, arith, drop, length, get_or, pos}
 use Rattle.std.proofs.lemmas.List.{drop_more}
 use Rattle.reorder.specs.declared.start_run.StartRun.{StartRun}
-use Rattle.reorder.specs.Starts.{run_bytes, bytes_with}
+use Rattle.reorder.specs.Starts.{bytes_with}
 use Rattle.reorder.proofs.Settling.{bytes_first, bytes_more, count_more, run_fits}
 use Rattle.reorder.proofs.settlement.write_runs.Goals as goal
 

@@ -1,4 +1,4 @@
-use Rattle.std.proofs.Common.{ap, ◌∙◌, ◌∷◌, List, ℕ, length}
+use Rattle.std.proofs.Common.{◌∷◌}
 use Rattle.reorder.proofs.HeldParts.{len_is}
 use Rattle.reorder.proofs.held.Held.len.Goals as goal
 

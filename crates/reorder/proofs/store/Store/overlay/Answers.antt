@@ -1,7 +1,7 @@
-use Rattle.std.proofs.Common.{◌≡◌, ◌-◌, ◌^◌, ◌∙◌, ap, arith, rules, length, min, to_z, of_z, w64}
+use Rattle.std.proofs.Common.{◌≡◌, ◌-◌, ◌^◌, rules, length, min, to_z, of_z, w64}
 use Rattle.std.proofs.Math.Facts.{to_z-of_z}
 use Rattle.std.specs.VecDeque.{deque_len, deque_capacity}
-use Rattle.reorder.proofs.HeldParts.{Fronts, fronts, fronts_held, fronts_weight, fronts_ascends, fronts_ends, fronts_size, at_refusal, at_success, shown, all_cut}
+use Rattle.reorder.proofs.HeldParts.{Fronts, fronts, fronts_held, fronts_weight, fronts_ascends, fronts_ends, fronts_size, at_success, on_refusal, unchanged, shown, all_cut}
 use Rattle.reorder.proofs.store.Store.overlay.Given.{Over}
 use Rattle.reorder.proofs.store.Store.overlay.Goals as goal
 
@@ -25,7 +25,10 @@ returns-clause-ok g c =
     c.self.inside.parts.items c.overlay_parts.new.parts.items c.args.self.now c.self.view_is (to_z-of_z c.ranges.start) c.split_at.ensures.front (reach g c) c.self.invariant.ends h)
 
 pub returns-clause-err : goal.returns-clause-err
-returns-clause-err g c = let f = settled_fronts g c in at_refusal c.overlay_parts.result (f.count, f.is)
+returns-clause-err g c =
+    on_refusal c.overlay_parts.result c.overlay_parts.ensures.err (λ e.
+    unchanged c.self.inside.parts.items c.overlay_parts.new.parts.items (deque_capacity c.self.inside.parts - deque_len c.self.inside.parts) (deque_capacity c.overlay_parts.new.parts - deque_len c.overlay_parts.new.parts)
+    c.args.self.now c.self.view_is e (λ i. c.overlay_parts.ensures.capacity i - c.overlay_parts.ensures.len i))
 
 pub returns-clause-weight : goal.returns-clause-weight
 returns-clause-weight g c = λ w. fronts_weight w c.args.policy c.args.start c.args.from c.args.bytes.now c.args.self.now.frags c.overlay_parts.new.parts.items (settled_fronts g c)

@@ -1,7 +1,7 @@
-use Rattle.std.proofs.Common.{◌≡◌, ◌-◌, ◌<◌, ◌≤◌, ◌∙◌, ap, arith, rules, length, to_z, of_z, w64}
+use Rattle.std.proofs.Common.{◌-◌, ◌<◌, ◌≤◌, ◌∙◌, ap, arith, rules, length, to_z, of_z, w64}
 use Rattle.std.proofs.Math.Facts.{to_z-of_z}
 use Rattle.std.specs.VecDeque.{deque_len, deque_capacity}
-use Rattle.reorder.specs.Frags.{put, cells_of, weight_in}
+use Rattle.reorder.specs.Frags.{cells_of, weight_in}
 use Rattle.reorder.proofs.Places.{put_weight}
 use Rattle.reorder.proofs.HeldParts.{fits_more, put_new, put_kept, room_is}
 use Rattle.reorder.proofs.store.Store.put.Goals as goal
