@@ -1,0 +1,6 @@
+pub mod ReadLemmas
+pub mod AdviceLemmas
+pub mod RuleLemmas
+pub mod BeginsLemmas
+pub mod TruthLemmas
+pub mod LawLemmas
