@@ -21,6 +21,7 @@ fn handler_of(alloc: Global, lines: &[&str]) -> Result<RuleHandler, Fail> {
 }
 
 /// What is asked of a handler, whichever it is.
+#[derive(Clone, Copy)]
 enum Asked<'a> {
     Created,
     Chunk(u64, &'a [u8], &'a [u8]),
