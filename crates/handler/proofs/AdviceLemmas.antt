@@ -5,7 +5,7 @@ use Rattle.linewords.specs.Words.{Words, word_at}
 use Rattle.handler.specs.declared.part.Part.{Part}
 use Rattle.handler.specs.Parts.{is_fresh, part_words, with_part, with_parts}
 use Rattle.handler.specs.Reader.{part}
-use Rattle.handler.specs.Grammar.{IsPart, AreParts, AreFresh, SaysAdvice, SaysSome}
+use Rattle.handler.specs.Grammar.{AreParts, AreFresh, SaysAdvice, SaysSome}
 use Rattle.handler.proofs.ReadLemmas.{part_is, part_read, part_there}
 
 -- Parts of advice are read one after the other.

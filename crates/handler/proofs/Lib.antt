@@ -4,3 +4,4 @@ pub mod RuleLemmas
 pub mod BeginsLemmas
 pub mod TruthLemmas
 pub mod LawLemmas
+pub mod DecideLemmas

@@ -1,4 +1,4 @@
-use Rattle.std.proofs.Common.{◌≡◌, Bool, false, cond, List, [], ◌∷◌, Option, Some, None, find, refl, sym, ◌∙◌, ap}
+use Rattle.std.proofs.Common.{◌≡◌, Bool, false, cond, List, [], ◌∷◌, Option, Some, None, find, refl, ◌∙◌, ap}
 use Rattle.std.specs.Option.{option_map_or}
 use Rattle.evring.specs.declared.reason.Reason.{Reason}
 use Rattle.evring.specs.Advice.{no_advice}

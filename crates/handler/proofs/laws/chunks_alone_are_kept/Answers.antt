@@ -1,4 +1,4 @@
-use Rattle.std.proofs.Common.{◌≡◌, Bool, false, subst, ap, ◌∙◌, refl}
+use Rattle.std.proofs.Common.{Bool, subst, ap, ◌∙◌, refl}
 use Rattle.evring.specs.declared.advice.Advice.{Advice}
 use Rattle.evring.specs.Advice.{no_advice}
 use Rattle.handler.specs.Grammar.{AreFresh}
