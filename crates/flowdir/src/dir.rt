@@ -333,12 +333,7 @@ impl<C: Charge> Dir<C> {
 
     /// The ask is answered.
     #[tactic(auto, using(crate::proofs::EntrySteps::told_step))]
-    fn hear(
-        &mut self,
-        alloc: Global,
-        shape: &Shape,
-        granted: Option<C>,
-    ) -> Result<Step<C>, Memory>
+    fn hear(&mut self, alloc: Global, shape: &Shape, granted: Option<C>) -> Result<Step<C>, Memory>
         requires live { IsLive self.old.work }
         requires granted { IfSome granted (λ charge. bytes_next self.old.work ≡ Some (C.amount charge)) }
         ensures step { IfOk result (λ step. (paid : C → Owed) (t : Terms) (d : Direction) (s : Segment) (looks : List LookEntry) (given : ℕ) (pieces : List Piece) (look : LookEntry) (request : Request)
@@ -613,10 +608,7 @@ fn is_near(front: u64, start: i64, last: u32) -> bool
 }
 
 /// Makes room for the first run that waits, where there is one.
-fn reserve_for<C: Charge>(
-    store: &mut Store<C>,
-    waits: &VecDeque<Waiting>,
-) -> Result<(), Memory>
+fn reserve_for<C: Charge>(store: &mut Store<C>, waits: &VecDeque<Waiting>) -> Result<(), Memory>
     ensures room { OnOk result (HasRoom store.new.room (waits_of waits.now.items)) }
     ensures same { store.new.frags ≡ store.old.frags }
 {

@@ -36,6 +36,7 @@ impl Charge for Granted {
 }
 
 /// A budget that grants up to a mark.
+#[derive(Drop)]
 struct Pool {
     mark: u32,
     used: u32,
@@ -288,8 +289,11 @@ fn holds(alloc: Global, row: &Row<'_>) -> Result<bool, Fail> {
 }
 
 const SYN: (u32, &str, u32, &str) = (4_294_967_295, "S", 0, "");
+
 const A10: &str = "AAAAAAAAAA";
+
 const B10: &str = "BBBBBBBBBB";
+
 const C10: &str = "CCCCCCCCCC";
 
 #[test]
@@ -298,14 +302,46 @@ fn overlap_is_settled_by_the_policies(rt: HostRuntime) -> Result<(), Fail> {
     let long = [SYN, (10, "", 0, A10), (5, "", 0, B10), (0, "", 0, C10)];
     let short = [SYN, (10, "", 0, A10), (10, "", 0, "BBBBB"), (0, "", 0, C10)];
     let rows = [
-        (Policy::First, "CCCCCBBBBBAAAAAAAAAA", "CCCCCCCCCCAAAAAAAAAA"),
+        (
+            Policy::First,
+            "CCCCCBBBBBAAAAAAAAAA",
+            "CCCCCCCCCCAAAAAAAAAA",
+        ),
         (Policy::Bsd, "CCCCCCCCCCBBBBBAAAAA", "CCCCCCCCCCAAAAAAAAAA"),
         (Policy::Last, "CCCCCCCCCCBBBBBAAAAA", "CCCCCCCCCCBBBBBAAAAA"),
-        (Policy::Linux, "CCCCCCCCCCBBBBBAAAAA", "CCCCCCCCCCBBBBBAAAAA"),
+        (
+            Policy::Linux,
+            "CCCCCCCCCCBBBBBAAAAA",
+            "CCCCCCCCCCBBBBBAAAAA",
+        ),
     ];
     for (policy, both, one) in rows {
-        assert!(rt; holds(alloc, &Row { policy, segments: &long, counts: (5, 0, 0, 5, 0), front: 20, chunks: &[(0, 0, both)], ..PLAIN })?);
-        assert!(rt; holds(alloc, &Row { policy, segments: &short, counts: (0, 0, 0, 10, 0), front: 20, chunks: &[(0, 0, one)], ..PLAIN })?);
+        assert!(rt;
+            holds(
+                alloc,
+                &Row {
+                    policy,
+                    segments: &long,
+                    counts: (5, 0, 0, 5, 0),
+                    front: 20,
+                    chunks: &[(0, 0, both)],
+                    ..PLAIN
+                }
+            )?
+        );
+        assert!(rt;
+            holds(
+                alloc,
+                &Row {
+                    policy,
+                    segments: &short,
+                    counts: (0, 0, 0, 10, 0),
+                    front: 20,
+                    chunks: &[(0, 0, one)],
+                    ..PLAIN
+                }
+            )?
+        );
     }
     Ok(())
 }
@@ -313,26 +349,101 @@ fn overlap_is_settled_by_the_policies(rt: HostRuntime) -> Result<(), Fail> {
 #[test]
 fn segments_are_taken_shed_and_passed(rt: HostRuntime) -> Result<(), Fail> {
     let alloc = rt.alloc();
-    let request = "GET / HTTP/1.1\r\nHost: example.org\r\nUser-Agent: test/1.0\r\nAccept: text/html\r\n\r\n";
+    let request =
+        "GET / HTTP/1.1\r\nHost: example.org\r\nUser-Agent: test/1.0\r\nAccept: text/html\r\n\r\n";
     let fifty = "aaaaaaaaaaaaaaaaaaaaaaaaaaaaaaaaaaaaaaaaaaaaaaaaaa";
     let rows = [
         // A connection's request, and its FIN behind it.
-        Row { segments: &[(1000, "S", 0, ""), (1001, "", 0, ""), (1001, "", 0, request), (1079, "F", 0, "")], front: 78, fin: Some(78), chunks: &[(0, 0, request)], ..PLAIN },
+        Row {
+            segments: &[
+                (1000, "S", 0, ""),
+                (1001, "", 0, ""),
+                (1001, "", 0, request),
+                (1079, "F", 0, ""),
+            ],
+            front: 78,
+            fin: Some(78),
+            chunks: &[(0, 0, request)],
+            ..PLAIN
+        },
         // Sequence numbers wrap.
-        Row { segments: &[(4_294_967_294, "S", 0, ""), (4_294_967_295, "", 0, "abcd"), (3, "", 0, "ef")], counts: (0, 0, 0, 2, 0), front: 6, chunks: &[(0, 0, "abcdef")], ..PLAIN },
+        Row {
+            segments: &[
+                (4_294_967_294, "S", 0, ""),
+                (4_294_967_295, "", 0, "abcd"),
+                (3, "", 0, "ef"),
+            ],
+            counts: (0, 0, 0, 2, 0),
+            front: 6,
+            chunks: &[(0, 0, "abcdef")],
+            ..PLAIN
+        },
         // A fast direction doesn't fill a gap later.
-        Row { mode: DirMode::Fast, segments: &[(0, "", 0, fifty), (100, "", 0, fifty), (50, "", 0, fifty)], counts: (0, 50, 0, 0, 0), front: 150, chunks: &[(0, 0, fifty), (100, 50, fifty)], ..PLAIN },
+        Row {
+            mode: DirMode::Fast,
+            segments: &[(0, "", 0, fifty), (100, "", 0, fifty), (50, "", 0, fifty)],
+            counts: (0, 50, 0, 0, 0),
+            front: 150,
+            chunks: &[(0, 0, fifty), (100, 50, fifty)],
+            ..PLAIN
+        },
         // A byte before the front was shown.
-        Row { segments: &[SYN, (0, "", 0, A10), (9, "", 0, "x")], counts: (1, 0, 0, 0, 0), front: 10, chunks: &[(0, 0, A10)], ..PLAIN },
+        Row {
+            segments: &[SYN, (0, "", 0, A10), (9, "", 0, "x")],
+            counts: (1, 0, 0, 0, 0),
+            front: 10,
+            chunks: &[(0, 0, A10)],
+            ..PLAIN
+        },
         // A cutoff of 10.
-        Row { cutoff: Some(10), segments: &[SYN, (0, "", 0, "abcdefgh"), (8, "", 0, "ijklmn")], counts: (0, 0, 4, 2, 0), front: 10, chunks: &[(0, 0, "abcdefghij")], ..PLAIN },
+        Row {
+            cutoff: Some(10),
+            segments: &[SYN, (0, "", 0, "abcdefgh"), (8, "", 0, "ijklmn")],
+            counts: (0, 0, 4, 2, 0),
+            front: 10,
+            chunks: &[(0, 0, "abcdefghij")],
+            ..PLAIN
+        },
         // The second of three runs is refused.
-        Row { mark: 15, segments: &[SYN, (5, "", 0, "aaaaa"), (15, "", 0, "bbbbb"), (0, "", 0, "ccccccccccccccccccccccccc")], counts: (10, 0, 0, 5, 10), front: 10, chunks: &[(0, 0, "cccccaaaaa"), (15, 5, "bbbbb")], ..PLAIN },
+        Row {
+            mark: 15,
+            segments: &[
+                SYN,
+                (5, "", 0, "aaaaa"),
+                (15, "", 0, "bbbbb"),
+                (0, "", 0, "ccccccccccccccccccccccccc"),
+            ],
+            counts: (10, 0, 0, 5, 10),
+            front: 10,
+            chunks: &[(0, 0, "cccccaaaaa"), (15, 5, "bbbbb")],
+            ..PLAIN
+        },
         // The front jumps where more than 10 bytes are held.
-        Row { reorder: 10, segments: &[SYN, (5, "", 0, A10), (15, "", 0, "b")], counts: (0, 0, 0, 1, 0), front: 16, chunks: &[(5, 5, "AAAAAAAAAAb")], ..PLAIN },
-        Row { reorder: 10, segments: &[SYN, (5, "", 0, A10)], counts: (0, 0, 0, 10, 0), front: 0, chunks: &[(5, 5, A10)], ..PLAIN },
+        Row {
+            reorder: 10,
+            segments: &[SYN, (5, "", 0, A10), (15, "", 0, "b")],
+            counts: (0, 0, 0, 1, 0),
+            front: 16,
+            chunks: &[(5, 5, "AAAAAAAAAAb")],
+            ..PLAIN
+        },
+        Row {
+            reorder: 10,
+            segments: &[SYN, (5, "", 0, A10)],
+            counts: (0, 0, 0, 10, 0),
+            front: 0,
+            chunks: &[(5, 5, A10)],
+            ..PLAIN
+        },
         // A FIN segment of which a part was captured.
-        Row { segments: &[SYN, (0, "F", 90, "0123456789")], counts: (0, 0, 0, 10, 0), front: 10, fin: Some(100), chunks: &[(0, 0, "0123456789")], ..PLAIN },
+        Row {
+            segments: &[SYN, (0, "F", 90, "0123456789")],
+            counts: (0, 0, 0, 10, 0),
+            front: 10,
+            fin: Some(100),
+            chunks: &[(0, 0, "0123456789")],
+            ..PLAIN
+        },
     ];
     for row in &rows {
         assert!(rt; holds(alloc, row)?);
