@@ -1,0 +1,11 @@
+pub mod Counting
+pub mod Boundary
+pub mod Lane
+pub mod Classes
+pub mod Passing
+pub mod Asking
+pub mod Waits
+pub mod Meeting
+pub mod Closing
+pub mod Kept
+pub mod Heading
