@@ -106,7 +106,7 @@ fn what_the_filter_refuses_is_counted_and_not_delivered(rt: HostRuntime) -> Resu
     expect_drills_by(&rt, rt.alloc(), Capture::Records(1, &ON_PORTS), &FILTERS)
 }
 
-const REFUSED: [(&str, Status); 12] = [
+const REFUSED: [(&str, Status); 13] = [
     // Not built yet.
     ("overlap 1\n", Status::Unbuilt),
     ("flush 1\n", Status::Unbuilt),
@@ -114,8 +114,8 @@ const REFUSED: [(&str, Status); 12] = [
     ("cutoff fore 7\n", Status::Unbuilt),
     ("cutoff back 0\n", Status::Unbuilt),
     ("class 0 - udp\n", Status::Unbuilt),
-    ("rule any keep\n", Status::Unbuilt),
-    ("chunk 4\nrule x y\n", Status::Unbuilt),
+    ("rule data any keep\n", Status::Unbuilt),
+    ("chunk 4\nrule new port 80 discard\n", Status::Unbuilt),
     // A fault comes before what is not built behind it, and before the capture.
     (
         "mode strict\n\nmoed fast\n",
@@ -125,7 +125,14 @@ const REFUSED: [(&str, Status); 12] = [
         },
     ),
     (
-        "rule x y\nchunk 0\n",
+        "rule any keep\n",
+        Status::Settings {
+            line: 1,
+            kind: SettingsKind::Rule,
+        },
+    ),
+    (
+        "rule new any discard\nchunk 0\n",
         Status::Settings {
             line: 2,
             kind: SettingsKind::Number,

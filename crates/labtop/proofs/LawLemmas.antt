@@ -1,4 +1,4 @@
-use Rattle.std.proofs.Common.{◌≡◌, ℕ, ◌+◌, ◌≤◌, ◌<◌, List, [], ◌∷◌, refl, sym, ◌∙◌, true, false, Bool, arith, nat_le, nat_eq}
+use Rattle.std.proofs.Common.{◌≡◌, ℕ, ◌+◌, ◌≤◌, ◌<◌, List, [], ◌∷◌, length, refl, sym, ◌∙◌, true, false, Bool, arith, nat_le, nat_eq}
 use Rattle.std.proofs.lemmas.Bool.Decides.{nat_tests}
 use Rattle.histbook.specs.declared.look_entry.LookEntry.{LookEntry}
 use Rattle.std.specs.Prelude.{◌&&◌}
@@ -54,7 +54,7 @@ zero_is n h = grind (arith, nat_tests)
 
 pub built_whole : (s : Settings) → is_built s ≡ true → plain (terms_of s) ≡ terms_of s
 built_whole s h =
-    let rules = both_true _ (nat_eq s.rule_lines 0) h in
+    let rules = both_true _ (nat_eq (length s.rules) 0) h in
     let cutoffs = both_true _ (is_without_cutoffs s.set.cutoffs) rules.0 in
     let sizes = both_true (nat_eq s.set.shape.overlap 0) (nat_eq s.set.shape.flush 0) cutoffs.0 in
     let classes = both_true _ (is_without_classes s.set.cutoffs.classes) cutoffs.1 in

@@ -1,5 +1,5 @@
 -- docs/RULES.md, "Settings".
-use Rattle.std.specs.Prelude.{◌≡◌, ℕ, Bool, true, false, ◌&&◌, nat_eq, List, [], ◌∷◌, Option, Some, None, if◌then◌else◌, IsSomeAnd}
+use Rattle.std.specs.Prelude.{◌≡◌, ℕ, Bool, true, false, ◌&&◌, nat_eq, List, [], ◌∷◌, length, Option, Some, None, if◌then◌else◌, IsSomeAnd}
 use Rattle.capfilter.specs.Truth.{truth}
 use Rattle.cutclass.specs.InForce.{Class}
 use Rattle.cutclass.specs.declared.class_rule.ClassRule.{ClassRule}
@@ -54,7 +54,7 @@ is_without_cutoffs c = is_unset c.default && is_unset c.fore && is_unset c.back 
 
 -- the settings that are built: no copies of last bytes, no flush, no cutoffs, classes or rules
 abbrev pub is_built : Settings → Bool
-is_built s = nat_eq s.set.shape.overlap 0 && nat_eq s.set.shape.flush 0 && is_without_cutoffs s.set.cutoffs && nat_eq s.rule_lines 0
+is_built s = nat_eq s.set.shape.overlap 0 && nat_eq s.set.shape.flush 0 && is_without_cutoffs s.set.cutoffs && nat_eq (length s.rules) 0
 
 -- the settings that a drill goes by: the defaults, or what the text of a file says
 abbrev pub GoesBy : List File → Option (List ℕ) → Settings → Type 0

@@ -31,5 +31,5 @@ pub(crate) fn is_built(settings: &Settings) -> bool
     settings.set.shape.overlap == 0
         && settings.set.shape.flush == 0
         && is_without_cutoffs(&settings.set.cutoffs)
-        && settings.rule_lines == 0
+        && settings.rules.as_slice().is_empty()
 }

@@ -15,9 +15,8 @@ use Rattle.scapconf.specs.declared.name.Name.{Name}
 use Rattle.scapconf.specs.declared.name.Name.TheVariants as names
 use Rattle.scapconf.specs.declared.setting.Setting.{Setting}
 use Rattle.scapconf.specs.declared.setting.Setting.TheVariants as settings
-use Rattle.scapconf.specs.Lines.{Words}
+use Rattle.linewords.specs.Words.{Words, word_at}
 use Rattle.scapconf.specs.Names.{name, place, spelling, place_word, all_names, name_in, heading, words_eq, line_with, head}
-use Rattle.scapconf.specs.Values.{word_at}
 use Rattle.scapconf.specs.Parser.{index, Means}
 
 -- Words that name something, and headings of lines.
@@ -71,7 +70,7 @@ heading_of (settings.Filter e) = head keys.Filter
 heading_of (settings.Cutoff p c) = head (keys.Cutoff p)
 heading_of (settings.Class rule) = codes "class" ∷ []
 heading_of (settings.Budget m) = head keys.Budget
-heading_of settings.Rule = codes "rule" ∷ []
+heading_of (settings.Rule rule) = codes "rule" ∷ []
 
 -- the first words of lines of one name
 abbrev pub heading_named : Name → Words → Words
@@ -133,7 +132,7 @@ read_heading ws n (settings.Filter e) h g = plain_heading ws names.Filter (named
 read_heading ws n (settings.Cutoff p c) h g = cutoff_heading ws p (named_as ws n names.Cutoff h g.0) g.1
 read_heading ws n (settings.Class rule) h g = plain_heading ws names.Class (named_as ws n names.Class h g.0) (λ e. absurd (cc))
 read_heading ws n (settings.Budget m) h g = plain_heading ws names.Budget (named_as ws n names.Budget h g.0) (λ e. absurd (cc))
-read_heading ws n settings.Rule h g = plain_heading ws names.Rule (named_as ws n names.Rule h g) (λ e. absurd (cc))
+read_heading ws n (settings.Rule rule) h g = plain_heading ws names.Rule (named_as ws n names.Rule h g.0) (λ e. absurd (cc))
 
 -- Lines that have a heading, with one line more.
 

@@ -8,6 +8,9 @@ use Rattle.capfilter.specs.Faults as filters
 use Rattle.capfilter.proofs.LawLemmas.{one_tree}
 use Rattle.cutclass.specs.declared.cut.Cut.{Cut}
 use Rattle.cutclass.specs.declared.class_rule.ClassRule.{ClassRule}
+use Rattle.handler.specs.declared.rule.Rule.{Rule}
+use Rattle.handler.specs.Grammar.{IsRule}
+use Rattle.handler.proofs.RuleLemmas.{one_rule}
 use Rattle.cutclass.specs.declared.cutoffs.Cutoffs.{Cutoffs}
 use Rattle.overpolicy.specs.declared.mode.Mode.{Mode}
 use Rattle.overpolicy.specs.declared.policy.Policy.{Policy}
@@ -23,7 +26,8 @@ use Rattle.scapconf.specs.declared.settings_error.SettingsError.{SettingsError}
 use Rattle.scapconf.specs.declared.settings_error.SettingsError.TheVariants as refusals
 use Rattle.scapconf.specs.declared.settings_error.SettingsKind.{SettingsKind}
 use Rattle.scapconf.specs.declared.settings_error.SettingsKind.TheVariants as kinds
-use Rattle.scapconf.specs.Lines.{Words, said}
+use Rattle.linewords.specs.Words.{Words}
+use Rattle.scapconf.specs.Lines.{said}
 use Rattle.scapconf.specs.Names.{line_with, head}
 use Rattle.scapconf.specs.Faults.{IsFault, IsFaultAt, IsFaultOf, IsClean, AreClean, line_at, rank}
 use Rattle.scapconf.specs.Says.{size_of, time_of, cutoff_of, IsDefault, IsValue, IsClass, Says, Reads}
@@ -176,6 +180,15 @@ same_classes (ws ∷ ls) (x ∷ xs) [] h g = absurd g
 same_classes (ws ∷ ls) (x ∷ xs) (y ∷ ys) h g =
     ap (λ (c : ClassRule). c ∷ xs) (same_class ws x y h.0 g.0) ∙ ap (λ (cs : List ClassRule). y ∷ cs) (same_classes ls xs ys h.1 g.1)
 
+same_rules : (ls : List Words) (xs ys : List Rule) → AllZip IsRule ls xs → AllZip IsRule ls ys → xs ≡ ys
+same_rules [] [] [] h g = refl
+same_rules [] [] (y ∷ ys) h g = absurd g
+same_rules [] (x ∷ xs) ys h g = absurd h
+same_rules (ws ∷ ls) [] ys h g = absurd h
+same_rules (ws ∷ ls) (x ∷ xs) [] h g = absurd g
+same_rules (ws ∷ ls) (x ∷ xs) (y ∷ ys) h g =
+    ap (λ (c : Rule). c ∷ xs) (one_rule ws x y h.0 g.0) ∙ ap (λ (cs : List Rule). y ∷ cs) (same_rules ls xs ys h.1 g.1)
+
 abbrev shape_of : Mode → Policy → (chunk overlap flush hole reorder idle : ℕ) → Shape
 shape_of m p c o f h r i = record { mode = m; policy = p; chunk = c; overlap = o; flush = f; hole = h; reorder = r; idle = i }
 
@@ -198,16 +211,16 @@ same_cutoffs s t d f b c =
     ap (λ (x : Cut). cutoffs_of x s.fore s.back s.classes) d ∙ ap (λ (x : Cut). cutoffs_of t.default x s.back s.classes) f
     ∙ ap (λ (x : Cut). cutoffs_of t.default t.fore x s.classes) b ∙ ap (λ (x : List ClassRule). cutoffs_of t.default t.fore t.back x) c
 
-abbrev settings_of : Shape → Cutoffs → MarkParts → Option Filter → ℕ → Settings
-settings_of shape cutoffs marks filter rules = record { set = record { shape = shape; cutoffs = cutoffs; marks = marks }; filter = filter; rule_lines = rules }
+abbrev settings_of : Shape → Cutoffs → MarkParts → Option Filter → List Rule → Settings
+settings_of shape cutoffs marks filter rules = record { set = record { shape = shape; cutoffs = cutoffs; marks = marks }; filter = filter; rules = rules }
 
-same_settings : (s t : Settings) → s.set.shape ≡ t.set.shape → s.set.cutoffs ≡ t.set.cutoffs → s.set.marks ≡ t.set.marks → s.filter ≡ t.filter → s.rule_lines ≡ t.rule_lines → s ≡ t
+same_settings : (s t : Settings) → s.set.shape ≡ t.set.shape → s.set.cutoffs ≡ t.set.cutoffs → s.set.marks ≡ t.set.marks → s.filter ≡ t.filter → s.rules ≡ t.rules → s ≡ t
 same_settings s t a b c d e =
-    ap (λ (x : Shape). settings_of x s.set.cutoffs s.set.marks s.filter s.rule_lines) a
-    ∙ ap (λ (x : Cutoffs). settings_of t.set.shape x s.set.marks s.filter s.rule_lines) b
-    ∙ ap (λ (x : MarkParts). settings_of t.set.shape t.set.cutoffs x s.filter s.rule_lines) c
-    ∙ ap (λ (x : Option Filter). settings_of t.set.shape t.set.cutoffs t.set.marks x s.rule_lines) d
-    ∙ ap (λ (x : ℕ). settings_of t.set.shape t.set.cutoffs t.set.marks t.filter x) e
+    ap (λ (x : Shape). settings_of x s.set.cutoffs s.set.marks s.filter s.rules) a
+    ∙ ap (λ (x : Cutoffs). settings_of t.set.shape x s.set.marks s.filter s.rules) b
+    ∙ ap (λ (x : MarkParts). settings_of t.set.shape t.set.cutoffs x s.filter s.rules) c
+    ∙ ap (λ (x : Option Filter). settings_of t.set.shape t.set.cutoffs t.set.marks x s.rules) d
+    ∙ ap (λ (x : List Rule). settings_of t.set.shape t.set.cutoffs t.set.marks t.filter x) e
 
 says_one : (ls : List Words) (s t : Settings) → Says ls s → Says ls t → s ≡ t
 says_one ls s t h g =
@@ -215,7 +228,7 @@ says_one ls s t h g =
     same_settings s t
     (same_shape s.set.shape t.set.shape (a keys.Mode) (a keys.Policy) (a (keys.Size Chunk)) (a (keys.Size Overlap)) (a (keys.Time Flush)) (a (keys.Time Hole)) (a (keys.Size Reorder)) (a (keys.Time Idle)))
     (same_cutoffs s.set.cutoffs t.set.cutoffs (a (keys.Cutoff Default)) (a (keys.Cutoff Fore)) (a (keys.Cutoff Back)) (same_classes _ _ _ h.classes g.classes))
-    (a keys.Budget) (a keys.Filter) (h.rules ∙ sym g.rules)
+    (a keys.Budget) (a keys.Filter) (same_rules _ _ _ h.rules g.rules)
 
 pub one_meaning : (text : List ℕ) → HasOneMeaning text
 one_meaning text s t h g = says_one (map said (lines text)) s t h.says g.says

@@ -1,10 +1,11 @@
-use Rattle.std.proofs.Common.{◌≡◌, ◌<◌, ◌&&◌, ℕ, Bool, true, false, cond, List, [], ◌∷◌, ◌++◌, length, take, get_or, Option, Some, None, Result, Ok, Err, codes, sym, ◌∙◌, ap, refl, subst, arith, filter, nat_le}
+use Rattle.std.proofs.Common.{◌≡◌, ◌<◌, ◌≤◌, ◌&&◌, ℕ, Bool, true, false, cond, List, [], ◌∷◌, ◌++◌, length, take, get_or, Option, Some, None, Result, Ok, Err, codes, sym, ◌∙◌, ap, refl, subst, arith, filter, nat_le}
 use Rattle.std.specs.Prelude.{is_some, MatchOption, MatchResult, count_by}
 use Rattle.std.specs.Option.{option_map}
 use Rattle.std.proofs.lemmas.List.Sums.{length-filter}
 use Rattle.std.proofs.lemmas.Slice.Zip.{AllZip-long}
 use Rattle.std.proofs.lemmas.Bool.{false≢true}
 use Rattle.std.proofs.lemmas.Bool.Decides.{nat_tests}
+use Rattle.handler.specs.Grammar.{IsRule}
 use Rattle.scapconf.specs.declared.place.Place.{Place}
 use Rattle.scapconf.specs.declared.key.Key.{Key}
 use Rattle.scapconf.specs.declared.key.Key.TheVariants as keys
@@ -18,10 +19,10 @@ use Rattle.scapconf.specs.declared.settings_error.SettingsKind.TheVariants as ki
 use Rattle.scapconf.specs.declared.line_error.LineError.{LineError}
 use Rattle.scapconf.specs.declared.line_error.LineError.TheVariants as errors
 use Rattle.scapconf.specs.declared.reader.Reader.{Reader}
-use Rattle.scapconf.specs.Lines.{Words, words, is_text, is_comment, said}
+use Rattle.linewords.specs.Words.{Words, words, word_at}
+use Rattle.scapconf.specs.Lines.{is_text, is_comment, said}
 use Rattle.scapconf.specs.Names.{name, place, name_in, heading, words_eq, line_with, head}
-use Rattle.scapconf.specs.Values.{word_at}
-use Rattle.scapconf.specs.Faults.{Has, IsClean, IsFaultOf, rank, Named, IsUnknown, is_repeated, is_one_too_many, are_values, count_fits, IsNoBudget, IsNoFilter}
+use Rattle.scapconf.specs.Faults.{Has, IsClean, IsFaultOf, rank, Named, IsUnknown, is_repeated, is_one_too_many, are_values, count_fits, IsNoBudget, IsNoFilter, IsNoRule}
 use Rattle.scapconf.specs.Says.{IsClass, begins}
 use Rattle.scapconf.specs.Parser.{index, key_in, has_key, is_full, Means, HasRoom, IsPassed, IsMemoryOr, Refuses, IsNamedFault, IsNamedClean, Stands}
 use Rattle.scapconf.proofs.HeadLemmas.{named_words, heading_is, plain_heading, cutoff_heading}
@@ -65,7 +66,8 @@ full_tells before reader ws names.Class h named =
     ∙ ap (λ (x : Words). nat_le 32 (count_by (λ earlier. words_eq (heading earlier) x) before)) (sym heads)
 full_tells before reader ws names.Rule h named =
     let heads = plain_heading ws names.Rule named (λ e. absurd (cc)) in
-    ap (nat_le 32) h.says.rules ∙ ap (λ (x : Words). nat_le 32 (count_by (λ earlier. words_eq (heading earlier) x) before)) (sym heads)
+    ap (nat_le 32) (AllZip-long IsRule (filter (begins (codes "rule")) before) reader.settings.rules h.says.rules ∙ length-filter (begins (codes "rule")) before)
+    ∙ ap (λ (x : Words). nat_le 32 (count_by (λ earlier. words_eq (heading earlier) x) before)) (sym heads)
 full_tells before reader ws names.Mode h named = refl
 full_tells before reader ws names.Policy h named = refl
 full_tells before reader ws (names.Size which) h named = refl
@@ -87,7 +89,7 @@ room n ws (settings.Filter e) s h g = tt
 room n ws (settings.Cutoff p c) s h g = tt
 room n ws (settings.Class rule) s h g = below_of (length s.set.cutoffs.classes) (ap (λ (m : Name). is_full m s) (sym g.0) ∙ h)
 room n ws (settings.Budget m) s h g = tt
-room n ws settings.Rule s h g = below_of s.rule_lines (ap (λ (m : Name). is_full m s) (sym g) ∙ h)
+room n ws (settings.Rule rule) s h g = tt
 
 both : (x y : Bool) → x ≡ true → y ≡ true → (x && y) ≡ true
 both x y h g = ap (λ (b : Bool). b && y) h ∙ g
@@ -102,7 +104,7 @@ read_values n ws (settings.Filter e) h = ap (λ (k : Name). are_values k ws) h.0
 read_values n ws (settings.Cutoff p c) h = ap (λ (k : Name). are_values k ws) h.0 ∙ both _ _ (ap is_some h.1) (ap is_some h.2)
 read_values n ws (settings.Class rule) h = ap (λ (k : Name). are_values k ws) h.0 ∙ both _ _ (ap is_some h.1.priority) (ap is_some h.1.cut)
 read_values n ws (settings.Budget m) h = ap (λ (k : Name). are_values k ws) h.0 ∙ ap is_some h.1
-read_values n ws settings.Rule h = ap (λ (k : Name). are_values k ws) h
+read_values n ws (settings.Rule rule) h = ap (λ (k : Name). are_values k ws) h.0
 
 -- The fault of a line.
 
@@ -122,17 +124,17 @@ no_both b h g = false≢true (sym h ∙ g)
 -- kinds before one are refuted one by one
 firsts : (before : List Words) (line : List ℕ) (n : ℕ) → (1 < n → ¬ Has before line kinds.Text) → (2 < n → ¬ Has before line kinds.Word) → (3 < n → ¬ Has before line kinds.Repeated)
     → (4 < n → ¬ Has before line kinds.Many) → (5 < n → ¬ Has before line kinds.Count) → (6 < n → ¬ Has before line kinds.Number) → (7 < n → ¬ Has before line kinds.Budget)
-    → (8 < n → ¬ Has before line kinds.Filter) → (other : SettingsKind) → rank other < n → ¬ Has before line other
-firsts before line n text word repeated many count number budget filter kinds.Long lt = λ h. h
-firsts before line n text word repeated many count number budget filter kinds.Text lt = text lt
-firsts before line n text word repeated many count number budget filter kinds.Word lt = word lt
-firsts before line n text word repeated many count number budget filter kinds.Repeated lt = repeated lt
-firsts before line n text word repeated many count number budget filter kinds.Many lt = many lt
-firsts before line n text word repeated many count number budget filter kinds.Count lt = count lt
-firsts before line n text word repeated many count number budget filter kinds.Number lt = number lt
-firsts before line n text word repeated many count number budget filter kinds.Budget lt = budget lt
-firsts before line n text word repeated many count number budget filter kinds.Filter lt = filter lt
-firsts before line n text word repeated many count number budget filter kinds.Rule lt = λ h. h
+    → (8 < n → ¬ Has before line kinds.Filter) → n ≤ 9 → (other : SettingsKind) → rank other < n → ¬ Has before line other
+firsts before line n text word repeated many count number budget filter most kinds.Long lt = λ h. h
+firsts before line n text word repeated many count number budget filter most kinds.Text lt = text lt
+firsts before line n text word repeated many count number budget filter most kinds.Word lt = word lt
+firsts before line n text word repeated many count number budget filter most kinds.Repeated lt = repeated lt
+firsts before line n text word repeated many count number budget filter most kinds.Many lt = many lt
+firsts before line n text word repeated many count number budget filter most kinds.Count lt = count lt
+firsts before line n text word repeated many count number budget filter most kinds.Number lt = number lt
+firsts before line n text word repeated many count number budget filter most kinds.Budget lt = budget lt
+firsts before line n text word repeated many count number budget filter most kinds.Filter lt = filter lt
+firsts before line n text word repeated many count number budget filter most kinds.Rule lt = absurd (omega arith)
 
 filters_are_no_budgets : (n : Name) (ws : Words) → IsNoFilter n ws → IsNoBudget n ws → ⊥
 filters_are_no_budgets names.Filter ws h g = g
@@ -144,6 +146,28 @@ filters_are_no_budgets (names.Time which) ws h g = g
 filters_are_no_budgets names.Cutoff ws h g = g
 filters_are_no_budgets names.Budget ws h g = h
 filters_are_no_budgets names.Rule ws h g = g
+
+rules_are_no_budgets : (n : Name) (ws : Words) → IsNoRule n ws → IsNoBudget n ws → ⊥
+rules_are_no_budgets names.Rule ws h g = g
+rules_are_no_budgets names.Filter ws h g = h
+rules_are_no_budgets names.Class ws h g = h
+rules_are_no_budgets names.Mode ws h g = h
+rules_are_no_budgets names.Policy ws h g = h
+rules_are_no_budgets (names.Size which) ws h g = h
+rules_are_no_budgets (names.Time which) ws h g = h
+rules_are_no_budgets names.Cutoff ws h g = h
+rules_are_no_budgets names.Budget ws h g = h
+
+rules_are_no_filters : (n : Name) (ws : Words) → IsNoRule n ws → IsNoFilter n ws → ⊥
+rules_are_no_filters names.Rule ws h g = g
+rules_are_no_filters names.Filter ws h g = h
+rules_are_no_filters names.Class ws h g = h
+rules_are_no_filters names.Mode ws h g = h
+rules_are_no_filters names.Policy ws h g = h
+rules_are_no_filters (names.Size which) ws h g = h
+rules_are_no_filters (names.Time which) ws h g = h
+rules_are_no_filters names.Cutoff ws h g = h
+rules_are_no_filters names.Budget ws h g = h
 
 module _ (before : List Words) (line : List ℕ) (n : Name) (text : is_text line ≡ true) (named : name_in (said line) ≡ Some n) where
   no_text : ¬ Has before line kinds.Text
@@ -167,6 +191,9 @@ module _ (before : List Words) (line : List ℕ) (n : Name) (text : is_text line
   no_budget : (¬ IsNoBudget n (said line)) → ¬ Has before line kinds.Budget
   no_budget e h = e (named_gives (said line) n (λ m. IsNoBudget m (said line)) named h)
 
+  no_rule : (¬ IsNoRule n (said line)) → ¬ Has before line kinds.Rule
+  no_rule e h = e (named_gives (said line) n (λ m. IsNoRule m (said line)) named h)
+
   no_filter : (¬ IsNoFilter n (said line)) → ¬ Has before line kinds.Filter
   no_filter e h = e (named_gives (said line) n (λ m. IsNoFilter m (said line)) named h)
 
@@ -175,42 +202,47 @@ module _ (before : List Words) (line : List ℕ) (n : Name) (text : is_text line
   named_fault kinds.Long h = absurd h
   named_fault kinds.Text h = absurd h
   named_fault kinds.Word h = absurd h
-  named_fault kinds.Rule h = absurd h
   named_fault kinds.Repeated h =
       record {
         has = named_has (said line) n (λ m. is_repeated before m (said line) ≡ true) named h;
         first = firsts before line 3 (λ _. no_text) (λ _. no_word) (λ lt. absurd (omega arith)) (λ lt. absurd (omega arith)) (λ lt. absurd (omega arith)) (λ lt. absurd (omega arith))
-            (λ lt. absurd (omega arith)) (λ lt. absurd (omega arith));
+            (λ lt. absurd (omega arith)) (λ lt. absurd (omega arith)) (omega arith);
       }
   named_fault kinds.Many h =
       record {
         has = named_has (said line) n (λ m. is_one_too_many before m (said line) ≡ true) named h.1;
         first = firsts before line 4 (λ _. no_text) (λ _. no_word) (λ _. no_repeated h.0) (λ lt. absurd (omega arith)) (λ lt. absurd (omega arith)) (λ lt. absurd (omega arith))
-            (λ lt. absurd (omega arith)) (λ lt. absurd (omega arith));
+            (λ lt. absurd (omega arith)) (λ lt. absurd (omega arith)) (omega arith);
       }
   named_fault kinds.Count h =
       record {
         has = named_has (said line) n (λ m. count_fits m (length (said line)) ≡ false) named h.2;
         first = firsts before line 5 (λ _. no_text) (λ _. no_word) (λ _. no_repeated h.0) (λ _. no_many h.1) (λ lt. absurd (omega arith)) (λ lt. absurd (omega arith))
-            (λ lt. absurd (omega arith)) (λ lt. absurd (omega arith));
+            (λ lt. absurd (omega arith)) (λ lt. absurd (omega arith)) (omega arith);
       }
   named_fault kinds.Number h =
       record {
         has = named_has (said line) n (λ m. are_values m (said line) ≡ false) named h.1;
         first = firsts before line 6 (λ _. no_text) (λ _. no_word) (λ _. no_repeated h.0.once) (λ _. no_many h.0.few) (λ _. no_count h.0.counted) (λ lt. absurd (omega arith))
-            (λ lt. absurd (omega arith)) (λ lt. absurd (omega arith));
+            (λ lt. absurd (omega arith)) (λ lt. absurd (omega arith)) (omega arith);
       }
   named_fault kinds.Budget h =
       record {
         has = named_has (said line) n (λ m. IsNoBudget m (said line)) named h.1.1;
         first = firsts before line 7 (λ _. no_text) (λ _. no_word) (λ _. no_repeated h.0.once) (λ _. no_many h.0.few) (λ _. no_count h.0.counted) (λ _. no_number h.1.0)
-            (λ lt. absurd (omega arith)) (λ lt. absurd (omega arith));
+            (λ lt. absurd (omega arith)) (λ lt. absurd (omega arith)) (omega arith);
       }
   named_fault kinds.Filter h =
       record {
         has = named_has (said line) n (λ m. IsNoFilter m (said line)) named h.1.1;
         first = firsts before line 8 (λ _. no_text) (λ _. no_word) (λ _. no_repeated h.0.once) (λ _. no_many h.0.few) (λ _. no_count h.0.counted) (λ _. no_number h.1.0)
-            (λ _. no_budget (filters_are_no_budgets n (said line) h.1.1)) (λ lt. absurd (omega arith));
+            (λ _. no_budget (filters_are_no_budgets n (said line) h.1.1)) (λ lt. absurd (omega arith)) (omega arith);
+      }
+  named_fault kinds.Rule h =
+      record {
+        has = named_has (said line) n (λ m. IsNoRule m (said line)) named h.1.1;
+        first = firsts before line 9 (λ _. no_text) (λ _. no_word) (λ _. no_repeated h.0.once) (λ _. no_many h.0.few) (λ _. no_count h.0.counted) (λ _. no_number h.1.0)
+            (λ _. no_budget (rules_are_no_budgets n (said line) h.1.1)) (λ _. no_filter (rules_are_no_filters n (said line) h.1.1)) (omega arith);
       }
 
   pub named_clean : IsNamedClean before n (said line) → IsClean before line
@@ -223,7 +255,7 @@ module _ (before : List Words) (line : List ℕ) (n : Name) (text : is_text line
   named_clean h kinds.Number = no_number h.values
   named_clean h kinds.Budget = no_budget h.no_budget_fault
   named_clean h kinds.Filter = no_filter h.no_filter_fault
-  named_clean h kinds.Rule = λ x. x
+  named_clean h kinds.Rule = no_rule h.no_rule_fault
 
 -- a line with a byte that no line may have
 pub text_fault : (before : List Words) (line : List ℕ) → is_text line ≡ false → IsFaultOf before line kinds.Text
@@ -231,7 +263,7 @@ text_fault before line h =
     record {
       has = h;
       first = firsts before line 1 (λ lt. absurd (omega arith)) (λ lt. absurd (omega arith)) (λ lt. absurd (omega arith)) (λ lt. absurd (omega arith)) (λ lt. absurd (omega arith))
-          (λ lt. absurd (omega arith)) (λ lt. absurd (omega arith)) (λ lt. absurd (omega arith));
+          (λ lt. absurd (omega arith)) (λ lt. absurd (omega arith)) (λ lt. absurd (omega arith)) (omega arith);
     }
 
 unknown_by : (ws : Words) (w : List ℕ) (r : Words) → ws ≡ w ∷ r → name w ≡ None → IsUnknown ws
@@ -243,7 +275,7 @@ word_fault before line w r text e h =
     record {
       has = unknown_by (said line) w r e h;
       first = firsts before line 2 (λ _ t. no_both (is_text line) t text) (λ lt. absurd (omega arith)) (λ lt. absurd (omega arith)) (λ lt. absurd (omega arith)) (λ lt. absurd (omega arith))
-          (λ lt. absurd (omega arith)) (λ lt. absurd (omega arith)) (λ lt. absurd (omega arith));
+          (λ lt. absurd (omega arith)) (λ lt. absurd (omega arith)) (λ lt. absurd (omega arith)) (omega arith);
     }
 
 nothing_named : (ws : Words) (P : Name → Type 0) → ws ≡ [] → Named P ws → ⊥
@@ -260,7 +292,7 @@ silent_clean before line text e kinds.Count = nothing_named (said line) (λ m. c
 silent_clean before line text e kinds.Number = nothing_named (said line) (λ m. are_values m (said line) ≡ false) e
 silent_clean before line text e kinds.Budget = nothing_named (said line) (λ m. IsNoBudget m (said line)) e
 silent_clean before line text e kinds.Filter = nothing_named (said line) (λ m. IsNoFilter m (said line)) e
-silent_clean before line text e kinds.Rule = λ x. x
+silent_clean before line text e kinds.Rule = nothing_named (said line) (λ m. IsNoRule m (said line)) e
 
 -- what words say is refused behind lines that they don't repeat
 pub refused_by : (before : List Words) (n : Name) (ws : Words) (error : LineError) → IsPassed before n ws → Refuses n ws error → IsMemoryOr (IsNamedFault before n ws) error
@@ -274,7 +306,7 @@ refused_by before n ws (errors.Fault kinds.Word) passed h = absurd h
 refused_by before n ws (errors.Fault kinds.Repeated) passed h = absurd h
 refused_by before n ws (errors.Fault kinds.Many) passed h = absurd h
 refused_by before n ws (errors.Fault kinds.Count) passed h = absurd h
-refused_by before n ws (errors.Fault kinds.Rule) passed h = absurd h
+refused_by before n ws (errors.Fault kinds.Rule) passed h = (passed, h)
 
 error_map : (error : LineError) (P Q : SettingsKind → Type 0) → ((kind : SettingsKind) → P kind → Q kind) → IsMemoryOr P error → IsMemoryOr Q error
 error_map errors.Memory P Q f h = tt

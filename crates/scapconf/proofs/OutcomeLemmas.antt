@@ -8,6 +8,9 @@ use Rattle.capfilter.specs.declared.filter_error.FilterFault.{FilterFault}
 use Rattle.capfilter.specs.Faults as filters
 use Rattle.capfilter.proofs.LawLemmas as trees
 use Rattle.cutclass.specs.declared.cut.Cut.{Cut}
+use Rattle.handler.specs.declared.rule.Rule.{Rule}
+use Rattle.handler.specs.Grammar.{IsRule}
+use Rattle.handler.proofs.DecideLemmas.{rule_decided}
 use Rattle.prio_budget.specs.MarkParts.{MarkParts}
 use Rattle.prio_budget.specs.Marks.{IsFirstFault}
 use Rattle.prio_budget.specs.declared.mark_fault.MarkFault.{MarkFault}
@@ -29,9 +32,10 @@ use Rattle.scapconf.specs.declared.line_error.LineError.TheVariants as errors
 use Rattle.scapconf.specs.declared.settings.Settings.{Settings}
 use Rattle.scapconf.specs.declared.reader.Reader.{Reader}
 use Rattle.scapconf.specs.Defaults.{default_settings}
-use Rattle.scapconf.specs.Lines.{Words, is_text, said, joined}
+use Rattle.linewords.specs.Words.{Words, word_at}
+use Rattle.scapconf.specs.Lines.{is_text, said, joined}
 use Rattle.scapconf.specs.Names.{name, name_in, place}
-use Rattle.scapconf.specs.Values.{word_at, mode, policy, size, time, cutoff, class_cut, class_priority}
+use Rattle.scapconf.specs.Values.{mode, policy, size, time, cutoff, class_cut, class_priority}
 use Rattle.scapconf.specs.Faults.{IsFault, IsFaultOf, IsClean, AreClean, budget_in, count_fits, is_repeated, is_one_too_many}
 use Rattle.scapconf.specs.Says.{IsDefault, Reads}
 use Rattle.scapconf.specs.Parser.{IsRead, IsWrong, IsPassed, Stands, index, key_in, with_key, applied}
@@ -51,19 +55,19 @@ nothing h = h
 
 mode_said : (ws : Words) (o : Option _) → mode (word_at 1 ws) ≡ o → Said names.Mode ws
 mode_said ws None e = inr (kinds.Number, ap is_some e)
-mode_said ws (Some m) e = inl (settings.Mode m, record { means = (refl, e); no_budget_fault = nothing; no_filter_fault = nothing })
+mode_said ws (Some m) e = inl (settings.Mode m, record { means = (refl, e); no_budget_fault = nothing; no_filter_fault = nothing; no_rule_fault = nothing })
 
 policy_said : (ws : Words) (o : Option _) → policy (word_at 1 ws) ≡ o → Said names.Policy ws
 policy_said ws None e = inr (kinds.Number, ap is_some e)
-policy_said ws (Some p) e = inl (settings.Policy p, record { means = (refl, e); no_budget_fault = nothing; no_filter_fault = nothing })
+policy_said ws (Some p) e = inl (settings.Policy p, record { means = (refl, e); no_budget_fault = nothing; no_filter_fault = nothing; no_rule_fault = nothing })
 
 size_said : (which : _) (ws : Words) (o : Option ℕ) → size which (word_at 1 ws) ≡ o → Said (names.Size which) ws
 size_said which ws None e = inr (kinds.Number, ap is_some e)
-size_said which ws (Some n) e = inl (settings.Size which n, record { means = (refl, e); no_budget_fault = nothing; no_filter_fault = nothing })
+size_said which ws (Some n) e = inl (settings.Size which n, record { means = (refl, e); no_budget_fault = nothing; no_filter_fault = nothing; no_rule_fault = nothing })
 
 time_said : (which : _) (ws : Words) (o : Option ℕ) → time which (word_at 1 ws) ≡ o → Said (names.Time which) ws
 time_said which ws None e = inr (kinds.Number, ap is_some e)
-time_said which ws (Some n) e = inl (settings.Time which n, record { means = (refl, e); no_budget_fault = nothing; no_filter_fault = nothing })
+time_said which ws (Some n) e = inl (settings.Time which n, record { means = (refl, e); no_budget_fault = nothing; no_filter_fault = nothing; no_rule_fault = nothing })
 
 neither : (a b : Bool) → a ≡ false → (a && b) ≡ false
 neither a b h = ap (λ x. x && b) h
@@ -77,11 +81,11 @@ yes a b h g = ap (λ x. x && b) h ∙ g
 cutoff_said : (ws : Words) (p : Option Place) (c : Option Cut) → place (word_at 1 ws) ≡ p → cutoff (word_at 2 ws) ≡ c → Said names.Cutoff ws
 cutoff_said ws None c e f = inr (kinds.Number, neither (is_some (place (word_at 1 ws))) (is_some (cutoff (word_at 2 ws))) (ap is_some e))
 cutoff_said ws (Some p) None e f = inr (kinds.Number, nor (is_some (place (word_at 1 ws))) (is_some (cutoff (word_at 2 ws))) (ap is_some e) (ap is_some f))
-cutoff_said ws (Some p) (Some c) e f = inl (settings.Cutoff p c, record { means = (refl, e, f); no_budget_fault = nothing; no_filter_fault = nothing })
+cutoff_said ws (Some p) (Some c) e f = inl (settings.Cutoff p c, record { means = (refl, e, f); no_budget_fault = nothing; no_filter_fault = nothing; no_rule_fault = nothing })
 
 filter_said : (ws : Words) → ((e : Expr) × filters.Reads (joined (drop 1 ws)) e) ⊎ ((f : FilterFault) × filters.IsFault (joined (drop 1 ws)) f) → Said names.Filter ws
 filter_said ws (inl r) =
-    inl (settings.Filter r.0, record { means = (refl, r.1); no_budget_fault = nothing; no_filter_fault = λ no. (trees.read_or_refused (joined (drop 1 ws))).apart r.0 no.0 r.1 no.1 })
+    inl (settings.Filter r.0, record { means = (refl, r.1); no_budget_fault = nothing; no_filter_fault = λ no. (trees.read_or_refused (joined (drop 1 ws))).apart r.0 no.0 r.1 no.1; no_rule_fault = nothing })
 filter_said ws (inr f) = inr (kinds.Filter, (refl, f))
 
 class_said : (ws : Words) (p : Option ℕ) (c : Option Cut) → class_priority (word_at 1 ws) ≡ p → class_cut (word_at 2 ws) ≡ c
@@ -96,6 +100,7 @@ class_said ws (Some p) (Some c) e f (inl r) =
         means = (refl, record { priority = e; cut = f; filter = r.1 });
         no_budget_fault = nothing;
         no_filter_fault = λ no. (trees.read_or_refused (joined (drop 3 ws))).apart r.0 no.0 r.1 no.1;
+        no_rule_fault = nothing;
       },
     )
 
@@ -138,8 +143,13 @@ budget_said ws (Some m) e = by (marks_fault m.limit m.base m.count)
             means = (refl, e);
             no_budget_fault = λ h. fine h.1 (subst (λ (x : MarkParts). IsFirstFault x.limit x.base x.count h.1) (some_same h.0 m (sym h.2 ∙ e)) h.3);
             no_filter_fault = nothing;
+            no_rule_fault = nothing;
           },
         )
+
+rule_said : (ws : Words) → ((rule : Rule) × IsRule ws rule) ⊎ ((rule : Rule) → ¬ IsRule ws rule) → Said names.Rule ws
+rule_said ws (inl r) = inl (settings.Rule r.0, record { means = (refl, r.1); no_budget_fault = nothing; no_filter_fault = nothing; no_rule_fault = λ none. none r.0 r.1 })
+rule_said ws (inr none) = inr (kinds.Rule, (refl, none))
 
 -- settings, or a fault
 words_said : (n : Name) (ws : Words) → Said n ws
@@ -151,7 +161,7 @@ words_said names.Filter ws = filter_said ws (trees.read_or_refused (joined (drop
 words_said names.Cutoff ws = cutoff_said ws (place (word_at 1 ws)) (cutoff (word_at 2 ws)) refl refl
 words_said names.Class ws = class_said ws (class_priority (word_at 1 ws)) (class_cut (word_at 2 ws)) refl refl (trees.read_or_refused (joined (drop 3 ws))).one
 words_said names.Budget ws = budget_said ws (budget_in ws) refl
-words_said names.Rule ws = inl (settings.Rule, record { means = refl; no_budget_fault = nothing; no_filter_fault = nothing })
+words_said names.Rule ws = rule_said ws (rule_decided ws)
 
 -- One line.
 
@@ -170,6 +180,7 @@ module _ (before : List Words) (reader : Reader) (stands : Stands before reader)
           values = read_values n (said line) read.0 read.1.means;
           no_budget_fault = read.1.no_budget_fault;
           no_filter_fault = read.1.no_filter_fault;
+          no_rule_fault = read.1.no_rule_fault;
         }),
         stands_step before (said line) n read.0 reader new named read.1.means passed.once refl refl stands,
       )
@@ -228,7 +239,7 @@ seen_none keys.Budget = refl
 fresh_stands : Stands [] fresh
 unfolding fresh
 fresh_stands = record {
-  says = record { once = said_none; classes = tt; rules = refl };
+  says = record { once = said_none; classes = tt; rules = tt };
   flags = refl;
   seen = seen_none;
   places = λ rest none. refl;

@@ -7,7 +7,8 @@ use Rattle.scapconf.specs.declared.settings.Settings.{Settings}
 use Rattle.scapconf.specs.declared.line_error.LineError.{LineError}
 use Rattle.scapconf.specs.declared.line_error.LineError.TheVariants as errors
 use Rattle.scapconf.specs.declared.reader.Reader.{Reader}
-use Rattle.scapconf.specs.Lines.{Words, said}
+use Rattle.linewords.specs.Words.{Words}
+use Rattle.scapconf.specs.Lines.{said}
 use Rattle.scapconf.specs.Faults.{IsClean, AreClean, line_at, IsFaultOf, IsFault}
 use Rattle.scapconf.specs.Says.{Says, Reads}
 use Rattle.scapconf.specs.Parser.{Stands, IsMemoryOr, IsMemoryOrFault, error_at}

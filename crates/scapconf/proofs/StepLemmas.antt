@@ -7,6 +7,7 @@ use Rattle.std.proofs.lemmas.List.Sums.{length-filter}
 use Rattle.std.proofs.lemmas.List.{append-nil, length-append}
 use Rattle.std.proofs.lemmas.Bool.{false≢true}
 use Rattle.cutclass.specs.declared.class_rule.ClassRule.{ClassRule}
+use Rattle.handler.specs.Grammar.{IsRule}
 use Rattle.scapconf.specs.declared.size.Size.{Size}
 use Rattle.scapconf.specs.declared.size.Size.TheVariants.{Chunk, Overlap, Reorder}
 use Rattle.scapconf.specs.declared.time.Time.{Time}
@@ -20,10 +21,9 @@ use Rattle.scapconf.specs.declared.setting.Setting.{Setting}
 use Rattle.scapconf.specs.declared.setting.Setting.TheVariants as settings
 use Rattle.scapconf.specs.declared.settings.Settings.{Settings}
 use Rattle.scapconf.specs.declared.reader.Reader.{Reader}
-use Rattle.scapconf.specs.Lines.{Words}
+use Rattle.linewords.specs.Words.{Words, word_at}
 use Rattle.scapconf.specs.Names.{place, place_word, size_word, time_word, stands_once, name_in, heading, words_eq, line_with, head}
 use Rattle.scapconf.specs.Faults.{is_repeated}
-use Rattle.scapconf.specs.Values.{word_at}
 use Rattle.scapconf.specs.Says.{IsDefault, IsValue, IsClass, begins, Says}
 use Rattle.scapconf.specs.Parser.{index, key_in, with_key, Means, applied, Stands}
 use Rattle.scapconf.proofs.HeadLemmas.{heading_of, head_tells, index_tells, line_same, line_new, read_heading, words_same, same_words, place_back}
@@ -40,7 +40,7 @@ key_of (settings.Filter e) = Some keys.Filter
 key_of (settings.Cutoff p c) = Some (keys.Cutoff p)
 key_of (settings.Class rule) = None
 key_of (settings.Budget m) = Some keys.Budget
-key_of settings.Rule = None
+key_of (settings.Rule rule) = None
 
 -- what is set for a key stays
 abbrev Stays : Key → Settings → Settings → Type 0
@@ -129,8 +129,8 @@ others (settings.Class rule) s (keys.Cutoff Back) ne = same
 others (settings.Class rule) s _ ne = same
 others (settings.Budget m) s keys.Budget ne = absurd (ne refl)
 others (settings.Budget m) s _ ne = same
-others settings.Rule s keys.Mode ne = same
-others settings.Rule s _ ne = same
+others (settings.Rule rule) s keys.Mode ne = same
+others (settings.Rule rule) s _ ne = same
 
 -- a key that no line of that heading speaks of
 abbrev Apart : Setting → Key → Type 0
@@ -145,7 +145,7 @@ key_heading (settings.Filter x) k h = let e : keys.Filter ≡ k = cc in ap head 
 key_heading (settings.Cutoff p c) k h = let e : keys.Cutoff p ≡ k = cc in ap head e
 key_heading (settings.Class rule) k h = absurd (cc)
 key_heading (settings.Budget m) k h = let e : keys.Budget ≡ k = cc in ap head e
-key_heading settings.Rule k h = absurd (cc)
+key_heading (settings.Rule rule) k h = absurd (cc)
 
 match_map : {X : Type 0} {A C : Type 0} {B D : X → Type 0} (o : Option X) → (A → C) → ((x : X) → B x → D x) → MatchOption o A B → MatchOption o C D
 match_map None f g h = f h
@@ -207,7 +207,7 @@ own_key (settings.Filter e) key h = ap (λ (k : Key). Some k) (head_tells keys.F
 own_key (settings.Cutoff p c) key h = ap (λ (k : Key). Some k) (head_tells (keys.Cutoff p) key h)
 own_key (settings.Class rule) key h = absurd (false≢true (sym (class_apart key) ∙ h))
 own_key (settings.Budget m) key h = ap (λ (k : Key). Some k) (head_tells keys.Budget key h)
-own_key settings.Rule key h = absurd (false≢true (sym (rule_apart key) ∙ h))
+own_key (settings.Rule rule) key h = absurd (false≢true (sym (rule_apart key) ∙ h))
 
 -- what was read is what is set
 applied_value : (n : Name) (ws : Words) (setting : Setting) (s : Settings) → Means n ws setting → MatchOption (key_of setting) (Unit {0}) (λ k. IsValue k ws (applied setting s))
@@ -225,7 +225,7 @@ applied_value n ws (settings.Cutoff Fore c) s h = h.2
 applied_value n ws (settings.Cutoff Back c) s h = h.2
 applied_value n ws (settings.Class rule) s h = tt
 applied_value n ws (settings.Budget m) s h = h.1
-applied_value n ws settings.Rule s h = tt
+applied_value n ws (settings.Rule rule) s h = tt
 
 none_there : (o : Option Words) → is_some o ≡ false → o ≡ None
 none_there None h = refl
@@ -250,7 +250,7 @@ unsaid before n ws (settings.Filter x) h new e = first_of before n ws keys.Filte
 unsaid before n ws (settings.Cutoff p c) h new e = first_of before n ws (keys.Cutoff p) (ap stands_once h.0) new e
 unsaid before n ws (settings.Class rule) h new e = tt
 unsaid before n ws (settings.Budget m) h new e = first_of before n ws keys.Budget (ap stands_once h.0) new e
-unsaid before n ws settings.Rule h new e = tt
+unsaid before n ws (settings.Rule rule) h new e = tt
 
 at_key : (o : Option Key) (P : Key → Type 0) (key : Key) → MatchOption o (Unit {0}) P → o ≡ Some key → P key
 at_key o P key h e = subst (λ (x : Option Key). MatchOption x (Unit {0}) P) e h
@@ -321,7 +321,7 @@ read_key n ws (settings.Filter e) h = ap (λ (k : Name). key_in k ws) h.0
 read_key n ws (settings.Cutoff p c) h = ap (λ (k : Name). key_in k ws) h.0 ∙ ap (λ (o : Option Place). option_map (λ q. keys.Cutoff q) o) h.1
 read_key n ws (settings.Class rule) h = ap (λ (k : Name). key_in k ws) h.0
 read_key n ws (settings.Budget m) h = ap (λ (k : Name). key_in k ws) h.0
-read_key n ws settings.Rule h = ap (λ (k : Name). key_in k ws) h
+read_key n ws (settings.Rule rule) h = ap (λ (k : Name). key_in k ws) h.0
 
 -- Classes and rules.
 
@@ -334,18 +334,11 @@ filter_none p before ws h = filter-append p before (ws ∷ []) ∙ ap (λ (b : B
 filter_one : (p : Words → Bool) (before : List Words) (ws : Words) → p ws ≡ true → filter p (before ++ ws ∷ []) ≡ filter p before ++ ws ∷ []
 filter_one p before ws h = filter-append p before (ws ∷ []) ∙ ap (λ (b : Bool). filter p before ++ cond b (ws ∷ []) []) h
 
-count_none : (p : Words → Bool) (before : List Words) (ws : Words) → p ws ≡ false → count_by p (before ++ ws ∷ []) ≡ count_by p before
-count_none p before ws h = sym (length-filter p (before ++ ws ∷ [])) ∙ ap length (filter_none p before ws h) ∙ length-filter p before
-
-count_one : (p : Words → Bool) (before : List Words) (ws : Words) → p ws ≡ true → count_by p (before ++ ws ∷ []) ≡ count_by p before + 1
-count_one p before ws h =
-    sym (length-filter p (before ++ ws ∷ [])) ∙ ap length (filter_one p before ws h) ∙ length-append (filter p before) (ws ∷ []) ∙ ap (λ (n : ℕ). n + 1) (length-filter p before)
-
-zip_more : (xs : List Words) (ys : List ClassRule) (ws : Words) (rule : ClassRule) → AllZip IsClass xs ys → IsClass ws rule → AllZip IsClass (xs ++ ws ∷ []) (ys ++ rule ∷ [])
-zip_more [] [] ws rule h g = (g, tt)
-zip_more [] (y ∷ ys) ws rule h g = absurd h
-zip_more (x ∷ xs) [] ws rule h g = absurd h
-zip_more (x ∷ xs) (y ∷ ys) ws rule h g = (h.0, zip_more xs ys ws rule h.1 g)
+zip_more : {A : Type 0} (R : Words → A → Type 0) (xs : List Words) (ys : List A) (ws : Words) (rule : A) → AllZip R xs ys → R ws rule → AllZip R (xs ++ ws ∷ []) (ys ++ rule ∷ [])
+zip_more R [] [] ws rule h g = (g, tt)
+zip_more R [] (y ∷ ys) ws rule h g = absurd h
+zip_more R (x ∷ xs) [] ws rule h g = absurd h
+zip_more R (x ∷ xs) (y ∷ ys) ws rule h g = (h.0, zip_more R xs ys ws rule h.1 g)
 
 unfoldable AreClasses : List Words → Settings → Type 0
 AreClasses before s = AllZip IsClass (filter (begins (codes "class")) before) s.set.cutoffs.classes
@@ -386,23 +379,34 @@ classes_step before ws n (settings.Cutoff Default c) s e h g = no_class before w
 classes_step before ws n (settings.Cutoff Fore c) s e h g = no_class before ws s (begins_by (codes "class") ws (settings.Cutoff Fore c) e) g
 classes_step before ws n (settings.Cutoff Back c) s e h g = no_class before ws s (begins_by (codes "class") ws (settings.Cutoff Back c) e) g
 classes_step before ws n (settings.Budget m) s e h g = no_class before ws s (begins_by (codes "class") ws (settings.Budget m) e) g
-classes_step before ws n settings.Rule s e h g = no_class before ws s (begins_by (codes "class") ws settings.Rule e) g
+classes_step before ws n (settings.Rule rule) s e h g = no_class before ws s (begins_by (codes "class") ws (settings.Rule rule) e) g
 classes_step before ws n (settings.Class rule) s e h g =
     subst (λ (xs : List Words). AllZip IsClass xs (s.set.cutoffs.classes ++ rule ∷ []))
     (sym (filter_one (begins (codes "class")) before ws (begins_by (codes "class") ws (settings.Class rule) e)))
-    (zip_more (filter (begins (codes "class")) before) s.set.cutoffs.classes ws rule g h.1)
+    (zip_more IsClass (filter (begins (codes "class")) before) s.set.cutoffs.classes ws rule g h.1)
 
-rules_step : (before : List Words) (ws : Words) (setting : Setting) (s : Settings) → heading ws ≡ heading_of setting
-    → s.rule_lines ≡ count_by (begins (codes "rule")) before → (applied setting s).rule_lines ≡ count_by (begins (codes "rule")) (before ++ ws ∷ [])
-rules_step before ws (settings.Mode m) s e h = h ∙ sym (count_none (begins (codes "rule")) before ws (begins_by (codes "rule") ws (settings.Mode m) e))
-rules_step before ws (settings.Policy p) s e h = h ∙ sym (count_none (begins (codes "rule")) before ws (begins_by (codes "rule") ws (settings.Policy p) e))
-rules_step before ws (settings.Size which k) s e h = h ∙ sym (count_none (begins (codes "rule")) before ws (begins_by (codes "rule") ws (settings.Size which k) e ∙ size_no_rule which))
-rules_step before ws (settings.Time which k) s e h = h ∙ sym (count_none (begins (codes "rule")) before ws (begins_by (codes "rule") ws (settings.Time which k) e ∙ time_no_rule which))
-rules_step before ws (settings.Filter x) s e h = h ∙ sym (count_none (begins (codes "rule")) before ws (begins_by (codes "rule") ws (settings.Filter x) e))
-rules_step before ws (settings.Cutoff p c) s e h = h ∙ sym (count_none (begins (codes "rule")) before ws (begins_by (codes "rule") ws (settings.Cutoff p c) e))
-rules_step before ws (settings.Class rule) s e h = h ∙ sym (count_none (begins (codes "rule")) before ws (begins_by (codes "rule") ws (settings.Class rule) e))
-rules_step before ws (settings.Budget m) s e h = h ∙ sym (count_none (begins (codes "rule")) before ws (begins_by (codes "rule") ws (settings.Budget m) e))
-rules_step before ws settings.Rule s e h = ap (λ (n : ℕ). n + 1) h ∙ sym (count_one (begins (codes "rule")) before ws (begins_by (codes "rule") ws settings.Rule e))
+unfoldable AreRules : List Words → Settings → Type 0
+AreRules before s = AllZip IsRule (filter (begins (codes "rule")) before) s.rules
+
+no_rule : (before : List Words) (ws : Words) (s : Settings) → begins (codes "rule") ws ≡ false → AreRules before s → AreRules (before ++ ws ∷ []) s
+unfolding AreRules
+no_rule before ws s h g = subst (λ (xs : List Words). AllZip IsRule xs s.rules) (sym (filter_none (begins (codes "rule")) before ws h)) g
+
+rules_step : (before : List Words) (ws : Words) (n : Name) (setting : Setting) (s : Settings) → heading ws ≡ heading_of setting → Means n ws setting
+    → AreRules before s → AreRules (before ++ ws ∷ []) (applied setting s)
+unfolding AreRules
+rules_step before ws n (settings.Mode m) s e h g = no_rule before ws s (begins_by (codes "rule") ws (settings.Mode m) e) g
+rules_step before ws n (settings.Policy p) s e h g = no_rule before ws s (begins_by (codes "rule") ws (settings.Policy p) e) g
+rules_step before ws n (settings.Size which k) s e h g = no_rule before ws s (begins_by (codes "rule") ws (settings.Size which k) e ∙ size_no_rule which) g
+rules_step before ws n (settings.Time which k) s e h g = no_rule before ws s (begins_by (codes "rule") ws (settings.Time which k) e ∙ time_no_rule which) g
+rules_step before ws n (settings.Filter x) s e h g = no_rule before ws s (begins_by (codes "rule") ws (settings.Filter x) e) g
+rules_step before ws n (settings.Cutoff p c) s e h g = no_rule before ws s (begins_by (codes "rule") ws (settings.Cutoff p c) e) g
+rules_step before ws n (settings.Class rule) s e h g = no_rule before ws s (begins_by (codes "rule") ws (settings.Class rule) e) g
+rules_step before ws n (settings.Budget m) s e h g = no_rule before ws s (begins_by (codes "rule") ws (settings.Budget m) e) g
+rules_step before ws n (settings.Rule rule) s e h g =
+    subst (λ (xs : List Words). AllZip IsRule xs (s.rules ++ rule ∷ []))
+    (sym (filter_one (begins (codes "rule")) before ws (begins_by (codes "rule") ws (settings.Rule rule) e)))
+    (zip_more IsRule (filter (begins (codes "rule")) before) s.rules ws rule g h.1)
 
 -- Cutoffs whose second word names nothing were not said.
 
@@ -435,7 +439,7 @@ no_cutoff (settings.Filter e) rest h = refl
 no_cutoff (settings.Cutoff p c) rest h = other_place p rest h
 no_cutoff (settings.Class rule) rest h = refl
 no_cutoff (settings.Budget m) rest h = refl
-no_cutoff settings.Rule rest h = refl
+no_cutoff (settings.Rule rule) rest h = refl
 
 unfoldable ArePlaces : List Words → Type 0
 ArePlaces before = (rest : Words) → place (word_at 0 rest) ≡ None → line_with (codes "cutoff" ∷ rest) before ≡ None
@@ -462,7 +466,7 @@ stands_by before settings seen reader e f h =
 -- a line that was read
 pub stands_step : (before : List Words) (ws : Words) (n : Name) (setting : Setting) (old new : Reader) → name_in ws ≡ Some n → Means n ws setting → is_repeated before n ws ≡ false
     → new.settings ≡ applied setting old.settings → new.seen ≡ with_key old.seen (key_in n ws) → Stands before old → Stands (before ++ ws ∷ []) new
-unfolding AreClasses ArePlaces
+unfolding AreClasses AreRules ArePlaces
 stands_step before ws n setting old new named means once e f h =
     let heads = read_heading ws n setting named means in
     let unsaid_yet = unsaid before n ws setting means once heads in
@@ -471,7 +475,7 @@ stands_step before ws n setting old new named means once e f h =
       says = record {
         once = once_step before ws n setting old.settings heads means unsaid_yet h.says.once;
         classes = classes_step before ws n setting old.settings heads means h.says.classes;
-        rules = rules_step before ws setting old.settings heads h.says.rules;
+        rules = rules_step before ws n setting old.settings heads means h.says.rules;
       };
       flags = flags_length old.seen (key_of setting) h.flags;
       seen = seen_step before ws setting old.seen h.flags heads unsaid_yet h.seen;
@@ -489,13 +493,13 @@ silent_apart keys.Budget = refl
 
 -- a line that says nothing
 pub silent_step : (before : List Words) (reader : Reader) → Stands before reader → Stands (before ++ [] ∷ []) reader
-unfolding AreClasses
+unfolding AreClasses AreRules
 silent_step before reader h =
     record {
       says = record {
         once = λ key. subst (λ (o : Option Words). MatchOption o (IsDefault key reader.settings) (λ v. IsValue key v reader.settings)) (sym (line_same (head key) before [] (silent_apart key))) (h.says.once key);
         classes = no_class before [] reader.settings refl h.says.classes;
-        rules = h.says.rules ∙ sym (count_none (begins (codes "rule")) before [] refl);
+        rules = no_rule before [] reader.settings refl h.says.rules;
       };
       flags = h.flags;
       seen = λ key. h.seen key ∙ sym (ap is_some (line_same (head key) before [] (silent_apart key)));

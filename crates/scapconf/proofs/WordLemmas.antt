@@ -5,30 +5,8 @@ use Rattle.std.proofs.lemmas.List.{drop-drop, drop_all, append-nil}
 use Rattle.std.proofs.lemmas.Str.{IsUtf8-from_ascii}
 use Rattle.std.proofs.lemmas.Str.Ascii.{IsAscii-nil, IsAscii-cons}
 use Rattle.std.proofs.lemmas.Bool.Decides.{nat_tests}
-use Rattle.scapconf.specs.Lines.{is_text_byte, is_text, is_blank, is_some_word, Words, words, joined}
-
--- A word of a line, and what stands behind it.
-
-pub word_here : (ws : Words) (i : ℕ) (w : List ℕ) (r : Words) → drop i ws ≡ w ∷ r → get_or ws i [] ≡ w
-word_here [] zero w r h = absurd (cc)
-word_here [] (suc i) w r h = absurd (cc)
-word_here (x ∷ xs) zero w r h = cc
-word_here (x ∷ xs) (suc i) w r h = word_here xs i w r h
-
-pub no_word_here : (ws : Words) (i : ℕ) → drop i ws ≡ [] → get_or ws i [] ≡ []
-no_word_here [] zero h = refl
-no_word_here [] (suc i) h = refl
-no_word_here (x ∷ xs) zero h = absurd (cc)
-no_word_here (x ∷ xs) (suc i) h = no_word_here xs i h
-
-pub drop_next : (ws : Words) (i : ℕ) (w : List ℕ) (r : Words) → drop i ws ≡ w ∷ r → drop (i + 1) ws ≡ r
-drop_next ws i w r h = sym (drop-drop 1 i ws) ∙ ap (drop 1) h
-
-pub drop_none : (ws : Words) (i n : ℕ) → drop i ws ≡ [] → i ≤ n → drop n ws ≡ []
-drop_none ws i n h le =
-    let e : length (drop i ws) ≡ 0 = ap length h in
-    let few : length ws ≤ n = omega (arith, length-drop i ws) in
-    drop_all n ws few
+use Rattle.linewords.specs.Words.{is_blank, is_some_word, Words, words}
+use Rattle.scapconf.specs.Lines.{is_text_byte, is_text, joined}
 
 -- Words that are joined.
 
@@ -113,3 +91,6 @@ words_text line h = filter_all is_text is_some_word (slice_split is_blank line) 
 pub joined_utf8 : (line text : List ℕ) (i : ℕ) (ws : Words) → is_text line ≡ true → ws ≡ drop i (words line) → text ≡ joined ws → IsUtf8 text
 joined_utf8 line text i ws h e g =
     subst (λ (t : List ℕ). IsUtf8 t) (sym (g ∙ ap joined e)) (IsUtf8-from_ascii (joined (drop i (words line))) (joined_ascii (drop i (words line)) (drop_all_pass is_text (words line) i (words_text line h))))
+
+pub line_utf8 : (line : List ℕ) → is_text line ≡ true → IsUtf8 line
+line_utf8 line h = IsUtf8-from_ascii line (subst (λ (t : List ℕ). IsAscii t) (append-nil line) (ascii_front line [] h IsAscii-nil))

@@ -35,5 +35,5 @@ abbrev pub default_settings : Settings
 default_settings = record {
   set = record { shape = default_shape; cutoffs = default_cutoffs; marks = default_marks };
   filter = None;
-  rule_lines = 0;
+  rules = [];
 }

@@ -5,14 +5,17 @@ use Rattle.capfilter.specs.Faults as filters
 use Rattle.prio_budget.specs.declared.mark_fault.MarkFault.{MarkFault}
 use Rattle.prio_budget.specs.MarkParts.{MarkParts}
 use Rattle.prio_budget.specs.Marks.{IsFirstFault}
+use Rattle.handler.specs.declared.rule.Rule.{Rule}
+use Rattle.handler.specs.Grammar.{IsRule}
 use Rattle.scapconf.specs.declared.limits.TheConstants.{LONGEST_TEXT, MOST_RULES}
 use Rattle.scapconf.specs.declared.name.Name.{Name}
 use Rattle.scapconf.specs.declared.name.Name.TheVariants as names
 use Rattle.scapconf.specs.declared.settings_error.SettingsKind.{SettingsKind}
 use Rattle.scapconf.specs.declared.settings_error.SettingsKind.TheVariants as kinds
-use Rattle.scapconf.specs.Lines.{Words, is_text, said, joined}
+use Rattle.linewords.specs.Words.{Words, word_at}
+use Rattle.scapconf.specs.Lines.{is_text, said, joined}
 use Rattle.scapconf.specs.Names.{name, name_in, stands_once, heading, words_eq, line_with, place}
-use Rattle.scapconf.specs.Values.{word_at, mode, policy, size, time, cutoff, class_cut, class_priority, budget}
+use Rattle.scapconf.specs.Values.{mode, policy, size, time, cutoff, class_cut, class_priority, budget}
 
 -- Which texts are refused, and why: docs/FORMATS.md, "Settings".
 
@@ -71,6 +74,18 @@ IsNoFilter names.Cutoff ws = ⊥
 IsNoFilter names.Budget ws = ⊥
 IsNoFilter names.Rule ws = ⊥
 
+-- the words of a line are no rule
+abbrev pub IsNoRule : Name → Words → Type 0
+IsNoRule names.Rule ws = (rule : Rule) → ¬ IsRule ws rule
+IsNoRule names.Mode ws = ⊥
+IsNoRule names.Policy ws = ⊥
+IsNoRule (names.Size size) ws = ⊥
+IsNoRule (names.Time time) ws = ⊥
+IsNoRule names.Filter ws = ⊥
+IsNoRule names.Cutoff ws = ⊥
+IsNoRule names.Class ws = ⊥
+IsNoRule names.Budget ws = ⊥
+
 -- something is true of the name of a line, which has one
 abbrev pub Named : (Name → Type 0) → Words → Type 0
 Named P ws = MatchOption (name_in ws) ⊥ P
@@ -103,8 +118,7 @@ Has before line kinds.Count = Named (λ name. count_fits name (length (said line
 Has before line kinds.Number = Named (λ name. are_values name (said line) ≡ false) (said line)
 Has before line kinds.Budget = Named (λ name. IsNoBudget name (said line)) (said line)
 Has before line kinds.Filter = Named (λ name. IsNoFilter name (said line)) (said line)
--- What rules say is not read yet.
-Has before line kinds.Rule = ⊥
+Has before line kinds.Rule = Named (λ name. IsNoRule name (said line)) (said line)
 
 -- the order in which the faults of a line are looked for
 abbrev pub rank : SettingsKind → ℕ

@@ -1,5 +1,6 @@
-use Rattle.std.specs.Prelude.{ℕ, Bool, false, ◌&&◌, ◌||◌, not, List, [], ◌∷◌, length, nat_eq, nat_le, filter, if◌then◌else◌}
-use Rattle.std.specs.List.{slice_split, list_all, join_with_byte}
+use Rattle.std.specs.Prelude.{ℕ, Bool, false, ◌&&◌, ◌||◌, List, [], ◌∷◌, nat_eq, nat_le, if◌then◌else◌}
+use Rattle.std.specs.List.{list_all, join_with_byte}
+use Rattle.linewords.specs.Words.{Words, words}
 
 -- Lines and words of a settings text: docs/FORMATS.md, "Settings". The lines are those of `Str.Lines`: each ends with a
 -- line feed, which the last may lack, and one carriage return before the line feed is dropped.
@@ -10,20 +11,6 @@ is_text_byte b = nat_eq b 9 || (nat_le 32 b && nat_le b 126)
 
 abbrev pub is_text : List ℕ → Bool
 is_text = list_all is_text_byte
-
--- a space or a tab
-abbrev pub is_blank : ℕ → Bool
-is_blank b = nat_eq b 32 || nat_eq b 9
-
--- the words of a line: what stands between its blanks
-abbrev pub Words : Type 0
-Words = List (List ℕ)
-
-abbrev pub is_some_word : List ℕ → Bool
-is_some_word w = not (nat_eq (length w) 0)
-
-unfoldable pub words : List ℕ → Words
-words line = filter is_some_word (slice_split is_blank line)
 
 -- a comment begins with `#`
 abbrev pub is_comment : List ℕ → Bool

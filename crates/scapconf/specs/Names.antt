@@ -11,7 +11,7 @@ use Rattle.scapconf.specs.declared.name.Name.{Name}
 use Rattle.scapconf.specs.declared.name.Name.TheVariants as names
 use Rattle.scapconf.specs.declared.key.Key.{Key}
 use Rattle.scapconf.specs.declared.key.Key.TheVariants as keys
-use Rattle.scapconf.specs.Lines.{Words}
+use Rattle.linewords.specs.Words.{Words}
 
 -- The words that lines begin with, and by which a line says what another said before.
 

@@ -1,6 +1,9 @@
 use Rattle.std.specs.Prelude.{◌≡◌, ℕ, ◌+◌, ◌<◌, Bool, true, false, List, [], ◌∷◌, ◌++◌, length, drop, Option, Some, None, is_some, nat_le, slice_index_or, slice_set, codes}
 use Rattle.std.specs.Option.{option_map}
 use Rattle.capfilter.specs.Faults as filters
+use Rattle.handler.specs.declared.rule_error.RuleError.{RuleError}
+use Rattle.handler.specs.declared.rule_error.RuleError.TheVariants as faults
+use Rattle.handler.specs.Grammar.{IsRule}
 use Rattle.cutclass.specs.declared.cut.Cut.{Cut}
 use Rattle.cutclass.specs.declared.cutoffs.Cutoffs.{Cutoffs}
 use Rattle.overpolicy.specs.declared.shape.Shape.{Shape}
@@ -24,10 +27,11 @@ use Rattle.scapconf.specs.declared.settings_error.SettingsKind.{SettingsKind}
 use Rattle.scapconf.specs.declared.settings_error.SettingsKind.TheVariants as kinds
 use Rattle.scapconf.specs.declared.settings.Settings.{Settings}
 use Rattle.scapconf.specs.declared.reader.Reader.{Reader}
-use Rattle.scapconf.specs.Lines.{Words, joined}
+use Rattle.linewords.specs.Words.{Words, word_at}
+use Rattle.scapconf.specs.Lines.{joined}
 use Rattle.scapconf.specs.Names.{line_with, head, place}
-use Rattle.scapconf.specs.Values.{word_at, mode, policy, size, time, cutoff}
-use Rattle.scapconf.specs.Faults.{most, budget_in, are_values, count_fits, is_repeated, is_one_too_many, IsNoBudget, IsNoFilter, IsNoExpression}
+use Rattle.scapconf.specs.Values.{mode, policy, size, time, cutoff}
+use Rattle.scapconf.specs.Faults.{most, budget_in, are_values, count_fits, is_repeated, is_one_too_many, IsNoBudget, IsNoFilter, IsNoRule, IsNoExpression}
 use Rattle.scapconf.specs.Says.{IsClass, Says}
 
 -- What the parser reads and keeps, joined to what the lines say.
@@ -78,26 +82,27 @@ Means name ws (Filter e) = (name ≡ names.Filter) × filters.Reads (joined (dro
 Means name ws (Cutoff p c) = (name ≡ names.Cutoff) × (place (word_at 1 ws) ≡ Some p) × (cutoff (word_at 2 ws) ≡ Some c)
 Means name ws (Class rule) = (name ≡ names.Class) × IsClass ws rule
 Means name ws (Budget m) = (name ≡ names.Budget) × (budget_in ws ≡ Some m)
-Means name ws Rule = name ≡ names.Rule
+Means name ws (Rule rule) = (name ≡ names.Rule) × IsRule ws rule
 
 -- what a line says was read, and it has no fault by itself
 pub record IsRead (name : Name) (ws : Words) (setting : Setting) : Type 0 where
   pub means : Means name ws setting
   pub no_budget_fault : ¬ IsNoBudget name ws
   pub no_filter_fault : ¬ IsNoFilter name ws
+  pub no_rule_fault : ¬ IsNoRule name ws
 
 -- what words say is refused by themselves
 abbrev pub IsWrong : Name → Words → SettingsKind → Type 0
 IsWrong name ws kinds.Number = are_values name ws ≡ false
 IsWrong name ws kinds.Budget = (are_values name ws ≡ true) × IsNoBudget name ws
 IsWrong name ws kinds.Filter = (are_values name ws ≡ true) × IsNoFilter name ws
+IsWrong name ws kinds.Rule = (are_values name ws ≡ true) × IsNoRule name ws
 IsWrong name ws kinds.Long = ⊥
 IsWrong name ws kinds.Text = ⊥
 IsWrong name ws kinds.Word = ⊥
 IsWrong name ws kinds.Repeated = ⊥
 IsWrong name ws kinds.Many = ⊥
 IsWrong name ws kinds.Count = ⊥
-IsWrong name ws kinds.Rule = ⊥
 
 abbrev pub IsMemoryOr : (SettingsKind → Type 0) → LineError → Type 0
 IsMemoryOr P errors.Memory = Unit {0}
@@ -105,6 +110,11 @@ IsMemoryOr P (errors.Fault kind) = P kind
 
 abbrev pub Refuses : Name → Words → LineError → Type 0
 Refuses name ws = IsMemoryOr (IsWrong name ws)
+
+-- why a line that is no rule is refused
+abbrev pub rule_fault : RuleError → LineError
+rule_fault faults.Memory = errors.Memory
+rule_fault faults.Fault = errors.Fault kinds.Rule
 
 -- an expression is refused
 abbrev pub RefusesExpression : List ℕ → LineError → Type 0
@@ -124,10 +134,10 @@ IsNamedFault before name ws kinds.Count = (is_repeated before name ws ≡ false)
 IsNamedFault before name ws kinds.Number = IsPassed before name ws × IsWrong name ws kinds.Number
 IsNamedFault before name ws kinds.Budget = IsPassed before name ws × IsWrong name ws kinds.Budget
 IsNamedFault before name ws kinds.Filter = IsPassed before name ws × IsWrong name ws kinds.Filter
+IsNamedFault before name ws kinds.Rule = IsPassed before name ws × IsWrong name ws kinds.Rule
 IsNamedFault before name ws kinds.Long = ⊥
 IsNamedFault before name ws kinds.Text = ⊥
 IsNamedFault before name ws kinds.Word = ⊥
-IsNamedFault before name ws kinds.Rule = ⊥
 
 -- and none
 pub record IsNamedClean (before : List Words) (name : Name) (ws : Words) : Type 0 where
@@ -135,6 +145,7 @@ pub record IsNamedClean (before : List Words) (name : Name) (ws : Words) : Type 
   pub values : are_values name ws ≡ true
   pub no_budget_fault : ¬ IsNoBudget name ws
   pub no_filter_fault : ¬ IsNoFilter name ws
+  pub no_rule_fault : ¬ IsNoRule name ws
 
 -- The settings so far.
 
@@ -169,12 +180,12 @@ applied (Filter e) s = record s { filter = Some e }
 applied (Cutoff p c) s = with_cutoffs s (with_cutoff p c s.set.cutoffs)
 applied (Class rule) s = with_cutoffs s (record s.set.cutoffs { classes = s.set.cutoffs.classes ++ rule ∷ [] })
 applied (Budget m) s = record s { set = record s.set { marks = m } }
-applied Rule s = record s { rule_lines = s.rule_lines + 1 }
+applied (Rule rule) s = record s { rules = s.rules ++ rule ∷ [] }
 
 -- as many classes or rules as there may be are there
 abbrev pub is_full : Name → Settings → Bool
 is_full names.Class s = nat_le most (length s.set.cutoffs.classes)
-is_full names.Rule s = nat_le most s.rule_lines
+is_full names.Rule s = nat_le most (length s.rules)
 is_full names.Mode s = false
 is_full names.Policy s = false
 is_full (names.Size which) s = false
@@ -185,7 +196,7 @@ is_full names.Budget s = false
 
 abbrev pub HasRoom : Setting → Settings → Type 0
 HasRoom (Class rule) s = length s.set.cutoffs.classes < most
-HasRoom Rule s = s.rule_lines < most
+HasRoom (Rule rule) s = Unit {0}
 HasRoom (Mode m) s = Unit {0}
 HasRoom (Policy p) s = Unit {0}
 HasRoom (Sized which n) s = Unit {0}

@@ -1,7 +1,8 @@
-use Rattle.std.specs.Prelude.{◌≡◌, ℕ, ◌≤◌, Bool, List, [], ◌∷◌, length, drop, map, filter, count_by, codes, Some, IsSomeAnd, MatchOption}
+use Rattle.std.specs.Prelude.{◌≡◌, ℕ, ◌≤◌, Bool, List, [], ◌∷◌, length, drop, map, filter, codes, Some, IsSomeAnd, MatchOption}
 use Rattle.std.specs.List.{AllZip}
 use Rattle.std.specs.Str.Lines.{lines}
 use Rattle.capfilter.specs.Faults as filters
+use Rattle.handler.specs.Grammar.{IsRule}
 use Rattle.cutclass.specs.declared.class_rule.ClassRule.{ClassRule}
 use Rattle.cutclass.specs.declared.cut.Cut.{Cut}
 use Rattle.cutclass.specs.declared.cutoffs.Cutoffs.{Cutoffs}
@@ -15,9 +16,10 @@ use Rattle.scapconf.specs.declared.time.Time.TheVariants.{Flush, Hole, Idle}
 use Rattle.scapconf.specs.declared.place.Place.{Place}
 use Rattle.scapconf.specs.declared.place.Place.TheVariants.{Default, Fore, Back}
 use Rattle.scapconf.specs.declared.settings.Settings.{Settings}
-use Rattle.scapconf.specs.Lines.{Words, said, joined}
+use Rattle.linewords.specs.Words.{Words, word_at}
+use Rattle.scapconf.specs.Lines.{said, joined}
 use Rattle.scapconf.specs.Names.{heading, words_eq, line_with, head}
-use Rattle.scapconf.specs.Values.{word_at, mode, policy, size, time, cutoff, class_cut, class_priority}
+use Rattle.scapconf.specs.Values.{mode, policy, size, time, cutoff, class_cut, class_priority}
 use Rattle.scapconf.specs.Faults.{budget_in, AreClean, longest}
 use Rattle.scapconf.specs.Defaults.{default_settings}
 
@@ -68,11 +70,11 @@ abbrev pub begins : List ℕ → Words → Bool
 begins word ws = words_eq (heading ws) (word ∷ [])
 
 -- the settings that lines say: each has the value of the line with its heading, and its default where there is none; the
--- classes are those of the class lines, in order; rules are counted
+-- classes are those of the class lines, and the rules those of the rule lines, in order
 pub record Says (ls : List Words) (s : Settings) : Type 0 where
   pub once : (key : Key) → MatchOption (line_with (head key) ls) (IsDefault key s) (λ ws. IsValue key ws s)
   pub classes : AllZip IsClass (filter (begins (codes "class")) ls) s.set.cutoffs.classes
-  pub rules : s.rule_lines ≡ count_by (begins (codes "rule")) ls
+  pub rules : AllZip IsRule (filter (begins (codes "rule")) ls) s.rules
 
 -- the settings of a text, which has no fault
 pub record Reads (text : List ℕ) (s : Settings) : Type 0 where

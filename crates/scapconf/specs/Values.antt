@@ -1,4 +1,4 @@
-use Rattle.std.specs.Prelude.{ℕ, ◌*◌, List, [], Option, Some, None, codes, slice_index_or, if◌then◌else◌}
+use Rattle.std.specs.Prelude.{ℕ, ◌*◌, List, Option, Some, None, codes, if◌then◌else◌}
 use Rattle.std.specs.Option.{option_map, option_and_then}
 use Rattle.std.specs.Str.{bytes_eq}
 use Rattle.overpolicy.specs.declared.mode.Mode.{Mode}
@@ -12,14 +12,9 @@ use Rattle.scapconf.specs.declared.size.Size.{Size}
 use Rattle.scapconf.specs.declared.size.Size.TheVariants.{Chunk, Overlap, Reorder}
 use Rattle.scapconf.specs.declared.time.Time.{Time}
 use Rattle.scapconf.specs.declared.time.Time.TheVariants.{Flush, Hole, Idle}
-use Rattle.scapconf.specs.Lines.{Words}
 use Rattle.scapconf.specs.Numbers.{number}
 
 -- What the words of lines stand for.
-
--- a word of a line, from 0; one that is missing is empty
-abbrev pub word_at : ℕ → Words → List ℕ
-word_at i ws = slice_index_or ws i []
 
 unfoldable pub mode : List ℕ → Option Mode
 mode w = if bytes_eq w (codes "strict") then Some Strict else if bytes_eq w (codes "fast") then Some Fast else None

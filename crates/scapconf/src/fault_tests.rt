@@ -1,4 +1,4 @@
-use crate::SettingsKind::{Budget, Count, Filter, Long, Many, Number, Repeated, Text, Word};
+use crate::SettingsKind::{Budget, Count, Filter, Long, Many, Number, Repeated, Rule, Text, Word};
 use crate::*;
 use std::alloc::{AllocError, Global};
 use std::test::Fail;
@@ -272,6 +272,9 @@ fn the_first_fault_is_told(rt: HostRuntime) {
         ("filter foo\n\u{7f}", 1, Filter),
         ("mode strict\nmode\nmode strict\n", 2, Repeated),
         ("\nrule\nfoo", 2, Count),
+        ("rule x\nfoo", 1, Rule),
+        ("rule new any keep\u{7f}", 1, Text),
+        ("mode fast\nrule new any\nmode fast", 2, Rule),
     ];
     for (text, line, kind) in rows {
         let found = fault_of(rt.alloc(), text.as_bytes());
@@ -290,21 +293,48 @@ fn repeated(alloc: Global, text: &str, times: u32, back: &str) -> Result<String,
 }
 
 #[test]
+fn rules_that_are_none_are_told(rt: HostRuntime) {
+    let rows = [
+        ("rule x", 1),
+        ("rule new any", 1),
+        ("rule new any keep", 1),
+        ("rule new port 65536 discard", 1),
+        ("rule data begins 474 keep", 1),
+        ("rule data any priority 16", 1),
+        ("rule data any cutoff none", 1),
+        ("rule data any keep keep", 1),
+        ("rule data any keep # remark", 1),
+        (
+            "rule data any keep\n\n\trule data any  discard discard\r\n",
+            3,
+        ),
+        ("filter udp\nrule data before x keep\nrule x", 2),
+    ];
+    for (text, line) in rows {
+        let found = fault_of(rt.alloc(), text.as_bytes());
+        assert_eq!(rt; found, fault(line, Rule), "of {text}");
+    }
+}
+
+#[test]
 fn limits_are_kept(rt: HostRuntime) -> Result<(), Fail> {
     let class = "class 0 - tcp\n";
+    let rule = "rule new any discard\n";
     let rows = [
         // 32 classes or rules, and one more, whatever it is.
-        (class, 31, "class 0 - tcp\nrule x", None),
+        (class, 31, "class 0 - tcp\nrule new any discard", None),
         (class, 31, "class 0 - tcp\nclass 0 - tcp", fault(33, Many)),
         (class, 32, "\n# class\nclass", fault(35, Many)),
         (class, 32, "class 16 x foo", fault(33, Many)),
         (class, 32, "class 0 - tcp\u{7f}", fault(33, Text)),
         (class, 32, "classes", fault(33, Word)),
         (class, 31, "class", fault(32, Count)),
-        ("rule x\n", 32, "class 0 - tcp\n", None),
-        ("rule x\n", 32, "rule x\n", fault(33, Many)),
-        ("rule x\n", 32, "rule", fault(33, Many)),
-        ("rule x\n", 31, "rule", fault(32, Count)),
+        (rule, 32, "class 0 - tcp\n", None),
+        (rule, 32, "rule new any discard\n", fault(33, Many)),
+        (rule, 32, "rule x\n", fault(33, Many)),
+        (rule, 32, "rule", fault(33, Many)),
+        (rule, 31, "rule", fault(32, Count)),
+        (rule, 31, "rule x", fault(32, Rule)),
         // 65,536 bytes, and one more.
         ("\n", 65_536, "", None),
         ("\n", 65_536, "\n", fault(0, Long)),

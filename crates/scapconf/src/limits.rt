@@ -4,4 +4,4 @@
 pub const LONGEST_TEXT: usize = 65_536;
 
 /// The most rules.
-pub const MOST_RULES: u32 = 32;
+pub const MOST_RULES: usize = 32;

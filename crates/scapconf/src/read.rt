@@ -2,9 +2,10 @@
 ghost use Rattle.std.specs.Prelude.{◌≡◌, true, drop, MatchResult};
 ghost use Rattle.capfilter.specs.Faults as filters;
 ghost use Rattle.scapconf.specs.declared.name.Name.TheVariants as names;
-ghost use Rattle.scapconf.specs.Lines.{words, is_text, joined};
+ghost use Rattle.linewords.specs.Words.{words};
+ghost use Rattle.scapconf.specs.Lines.{is_text, joined};
 ghost use Rattle.scapconf.specs.Faults.{IsNoExpression};
-ghost use Rattle.scapconf.specs.Parser.{IsRead, Refuses, RefusesExpression};
+ghost use Rattle.scapconf.specs.Parser.{IsRead, Refuses, RefusesExpression, rule_fault};
 
 use crate::SettingsKind;
 use crate::line_error::LineError;
@@ -14,9 +15,11 @@ use crate::setting::Setting;
 use crate::size::Size;
 use crate::time::Time;
 use crate::value::{budget, class_cut, class_priority, cutoff, mode, policy, size, time};
-use crate::word::{expression, word};
+use crate::word::{expression, text_of};
 use capfilter::{Filter, FilterError};
 use cutclass::ClassRule;
+use handler::{Rule, RuleError};
+use linewords::word;
 use prio_budget::Marks;
 use std::alloc::Global;
 
@@ -120,6 +123,25 @@ fn read_class(alloc: Global, line: &[u8]) -> Result<Setting, LineError>
     }
 }
 
+fn rule_fault(error: RuleError) -> LineError
+    ensures { result ≡ rule_fault error }
+{
+    match error {
+        RuleError::Memory => LineError::Memory,
+        RuleError::Fault => LineError::Fault(SettingsKind::Rule),
+    }
+}
+
+fn read_rule(alloc: Global, line: &[u8]) -> Result<Setting, LineError>
+    requires { is_text line.now ≡ true }
+    ensures { MatchResult result (IsRead names.Rule (words line.now)) (Refuses names.Rule (words line.now)) }
+{
+    match Rule::parse(alloc, text_of(line)) {
+        Ok(rule) => Ok(Setting::Rule(rule)),
+        Err(error) => Err(rule_fault(error)),
+    }
+}
+
 /// What a line of that name says, which has as many words as it may.
 pub(crate) fn read(alloc: Global, name: Name, line: &[u8]) -> Result<Setting, LineError>
     requires { is_text line.now ≡ true }
@@ -134,6 +156,6 @@ pub(crate) fn read(alloc: Global, name: Name, line: &[u8]) -> Result<Setting, Li
         Name::Cutoff => read_cutoff(line),
         Name::Class => read_class(alloc, line),
         Name::Budget => read_budget(line),
-        Name::Rule => Ok(Setting::Rule),
+        Name::Rule => read_rule(alloc, line),
     }
 }

@@ -1,7 +1,8 @@
 // Lines are taken one after the other.
 ghost use Rattle.std.specs.Prelude.{◌≡◌, ◌∷◌, ◌++◌, [], List, Some, IfOk, OnOk, MatchResult, true};
 ghost use Rattle.scapconf.specs.Faults.{IsClean, IsFaultOf};
-ghost use Rattle.scapconf.specs.Lines.{Words, words, is_text, said};
+ghost use Rattle.linewords.specs.Words.{Words, words};
+ghost use Rattle.scapconf.specs.Lines.{is_text, said};
 ghost use Rattle.scapconf.specs.Names.{name_in};
 ghost use Rattle.scapconf.specs.Parser.{key_in, has_key, with_key, applied, with_size, with_time, with_cutoff, is_full, HasRoom, Stands, IsNamedClean, IsNamedFault, IsMemoryOr};
 
@@ -15,9 +16,9 @@ use crate::read::read;
 use crate::setting::Setting;
 use crate::size::Size;
 use crate::time::Time;
-use crate::word::{count_words, next_word, word};
 use crate::{Memory, Settings, SettingsKind};
 use cutclass::{ClassRule, Classes, Cut, Cutoffs, MOST_CLASSES};
+use linewords::{count_words, next_word, word};
 use overpolicy::Shape;
 use std::alloc::Global;
 
@@ -124,7 +125,7 @@ impl Reader {
     {
         match name {
             Name::Class => self.settings.set.cutoffs.classes.as_slice().len() >= MOST_CLASSES,
-            Name::Rule => self.settings.rule_lines >= MOST_RULES,
+            Name::Rule => self.settings.rules.as_slice().len() >= MOST_RULES,
             Name::Mode
             | Name::Policy
             | Name::Size(_)
@@ -151,7 +152,7 @@ impl Reader {
             Setting::Cutoff(place, cut) => set_cutoff(&mut self.settings.set.cutoffs, place, cut),
             Setting::Class(rule) => add_class(&mut self.settings.set.cutoffs.classes, rule)?,
             Setting::Budget(marks) => self.settings.set.marks = marks,
-            Setting::Rule => self.settings.rule_lines += 1,
+            Setting::Rule(rule) => self.settings.rules.push(rule)?,
         }
         Ok(())
     }

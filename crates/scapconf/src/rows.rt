@@ -180,5 +180,5 @@ pub fn defaults_could_be_said()
     ensures budget { budget (codes "67108864") (codes "33554432") (codes "1") ≡ Some default_marks }
     ensures cutoffs { default_cutoffs ≡ record { default = Unset; fore = Unset; back = Unset; classes = [] } }
     ensures filter { default_settings.filter ≡ None }
-    ensures rules { default_settings.rule_lines ≡ 0 }
+    ensures rules { default_settings.rules ≡ [] }
 {}

@@ -3,6 +3,7 @@ use crate::size::Size;
 use crate::time::Time;
 use capfilter::Filter;
 use cutclass::{ClassRule, Cut};
+use handler::Rule;
 use overpolicy::{Mode, Policy};
 use prio_budget::Marks;
 
@@ -18,5 +19,5 @@ pub(crate) enum Setting {
     Cutoff(Place, Cut),
     Class(ClassRule),
     Budget(Marks),
-    Rule,
+    Rule(Rule),
 }

@@ -5,6 +5,7 @@ use crate::Memory;
 use capfilter::Filter;
 use convo::ConvoSet;
 use cutclass::{Classes, Cut, Cutoffs};
+use handler::RuleList;
 use overpolicy::{Mode, Policy, Shape};
 use prio_budget::Marks;
 use std::alloc::Global;
@@ -17,8 +18,8 @@ pub struct Settings {
     pub set: ConvoSet,
     /// The packets that are accepted; all where there is none.
     pub filter: Option<Filter>,
-    /// How many rules there are. What they say is not read yet.
-    pub rule_lines: u32,
+    /// What is advised at which events.
+    pub rules: RuleList,
 }
 
 fn default_shape() -> Shape
@@ -71,7 +72,7 @@ impl Settings {
                 marks: default_marks(),
             },
             filter: None,
-            rule_lines: 0,
+            rules: RuleList::none(alloc),
         })
     }
 
@@ -86,7 +87,7 @@ impl Settings {
         Ok(Settings {
             set: self.set.copy()?,
             filter,
-            rule_lines: self.rule_lines,
+            rules: self.rules.copy()?,
         })
     }
 }

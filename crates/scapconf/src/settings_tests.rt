@@ -243,29 +243,50 @@ fn repeated(alloc: Global, text: &str, times: u32) -> Result<String, AllocError>
     Ok(all)
 }
 
+/// The positions at which rules cut, one behind the other; a rule that cuts nowhere is a point.
+fn cuts_of(alloc: Global, settings: &Settings) -> Result<String, Fail> {
+    let mut all = String::new(alloc);
+    for rule in settings.rules.as_slice() {
+        match rule.advice.cutoff {
+            Some(position) => all.push_str(&format!(in alloc; "{position};")?)?,
+            None => all.push_str(".;")?,
+        }
+    }
+    Ok(all)
+}
+
 #[test]
-fn rules_are_counted(rt: HostRuntime) -> Result<(), Fail> {
+fn rules_are_read_in_order(rt: HostRuntime) -> Result<(), Fail> {
     let rows = [
-        ("mode fast", 1, 0),
-        ("# rule", 1, 0),
-        ("rule x", 1, 1),
-        ("rule new any keep\n", 2, 2),
-        ("\trule  [ ~ ]\t\r\n", 31, 31),
-        ("rule 1 2 3 4 5 6 7 8 9 10\n#\n", 32, 32),
+        ("mode fast", ""),
+        ("# rule", ""),
+        ("rule new any discard", ".;"),
+        ("rule data any cutoff 7\n", "7;"),
+        (
+            "\trule  data\tbegins 4745  cutoff\t00000000000000000006 \r\n",
+            "6;",
+        ),
+        (
+            "rule data from 4 cutoff 3\nmode fast\n# and\nrule new port 80 cutoff 1\nrule data any keep\nrule data from 4 cutoff 3",
+            "3;1;.;3;",
+        ),
     ];
-    for (text, times, expected) in rows {
-        let all = repeated(rt.alloc(), text, times)?;
-        let settings = Settings::parse(rt.alloc(), all.as_bytes())?;
-        assert_eq!(rt; settings.rule_lines, expected, "of {text}");
+    for (text, expected) in rows {
+        let settings = Settings::parse(rt.alloc(), text.as_bytes())?;
+        let found = cuts_of(rt.alloc(), &settings)?;
+        assert_eq!(rt; found.as_str(), expected, "of {text}");
+        let copy = cuts_of(rt.alloc(), &settings.copy()?)?;
+        assert_eq!(rt; copy.as_str(), expected, "of {text}");
     }
     Ok(())
 }
 
 #[test]
 fn there_may_be_32_classes_beside_32_rules(rt: HostRuntime) -> Result<(), Fail> {
-    let text = repeated(rt.alloc(), "class 1 - ip6\nrule a\n", 32)?;
+    let text = repeated(rt.alloc(), "class 1 - ip6\nrule data any cutoff 5\n", 32)?;
     let settings = Settings::parse(rt.alloc(), text.as_bytes())?;
-    assert_eq!(rt; settings.rule_lines, 32);
+    let cuts = cuts_of(rt.alloc(), &settings)?;
+    assert_eq!(rt; cuts.as_str(), repeated(rt.alloc(), "5;", 32)?.as_str());
     let classes = classes_of(rt.alloc(), &settings)?;
     let expected = repeated(rt.alloc(), "1 Unset ip6;", 32)?;
     assert_eq!(rt; classes.as_str(), expected.as_str());
@@ -276,7 +297,7 @@ fn there_may_be_32_classes_beside_32_rules(rt: HostRuntime) -> Result<(), Fail> 
 fn all_lines_stand_together(rt: HostRuntime) -> Result<(), Fail> {
     let text =
         "idle 1\nhole 2\nflush 3\nreorder 4\noverlap 5\nchunk 6\nmode fast\nbudget 4096 7 8\n\
-        cutoff fore 9\nclass 10 11 ip\nfilter udp\nrule x\npolicy linux\n";
+        cutoff fore 9\nclass 10 11 ip\nfilter udp\nrule new any cutoff 12\npolicy linux\n";
     let settings = Settings::parse(rt.alloc(), text.as_bytes())?;
     let shape = Shape {
         mode: Mode::Fast,
@@ -298,6 +319,6 @@ fn all_lines_stand_together(rt: HostRuntime) -> Result<(), Fail> {
         "10 At(11) ip;"
     );
     assert_eq!(rt; filter_of(rt.alloc(), &settings)?.as_str(), "udp");
-    assert_eq!(rt; settings.rule_lines, 1);
+    assert_eq!(rt; cuts_of(rt.alloc(), &settings)?.as_str(), "12;");
     Ok(())
 }

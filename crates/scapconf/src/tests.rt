@@ -1,6 +1,7 @@
 use crate::*;
 use capfilter::Filter;
 use cutclass::{ClassRule, Cut};
+use handler::Rule;
 use overpolicy::{Mode, Policy, Shape};
 use pcapfile::HeadFault;
 use prio_budget::Marks;
@@ -152,7 +153,7 @@ fn what_is_not_said_has_its_default(rt: HostRuntime) -> Result<(), Fail> {
     assert_eq!(rt; settings.set.cutoffs.back, Cut::Unset);
     assert!(rt; settings.set.cutoffs.classes.as_slice().is_empty());
     assert!(rt; settings.filter.is_none());
-    assert_eq!(rt; settings.rule_lines, 0);
+    assert!(rt; settings.rules.as_slice().is_empty());
     Ok(())
 }
 
@@ -160,7 +161,9 @@ fn what_is_not_said_has_its_default(rt: HostRuntime) -> Result<(), Fail> {
 fn a_copy_is_equal(rt: HostRuntime) -> Result<(), Fail> {
     let mut settings = Settings::defaults(rt.alloc())?;
     settings.filter = Some(Filter::parse(rt.alloc(), "udp and port 53")?);
-    settings.rule_lines = 2;
+    settings
+        .rules
+        .push(Rule::parse(rt.alloc(), "rule data any keep")?)?;
     settings.set.shape.chunk = 9;
     settings.set.cutoffs.back = Cut::At(5);
     settings.set.cutoffs.classes.add(ClassRule {
@@ -169,7 +172,8 @@ fn a_copy_is_equal(rt: HostRuntime) -> Result<(), Fail> {
         filter: Filter::parse(rt.alloc(), "tcp")?,
     })?;
     let copy = settings.copy()?;
-    assert_eq!(rt; copy.rule_lines, 2);
+    assert_eq!(rt; copy.rules.as_slice().len(), 1);
+    assert!(rt; copy.rules.as_slice()[0].advice.keep);
     assert_eq!(rt; copy.set.shape, settings.set.shape);
     assert_eq!(rt; copy.set.marks, settings.set.marks);
     assert_eq!(rt; copy.set.cutoffs.back, Cut::At(5));

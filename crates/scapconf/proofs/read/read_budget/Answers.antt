@@ -1,7 +1,7 @@
 use Rattle.std.proofs.Common.{◌≡◌, Some, ap}
 use Rattle.std.specs.Prelude.{is_some}
 use Rattle.prio_budget.specs.MarkParts.{MarkParts}
-use Rattle.scapconf.specs.Lines.{words}
+use Rattle.linewords.specs.Words.{words}
 use Rattle.scapconf.specs.Faults.{budget_in}
 use Rattle.scapconf.proofs.ReadLemmas.{budget_said}
 use Rattle.scapconf.proofs.read.read_budget.Goals as goal

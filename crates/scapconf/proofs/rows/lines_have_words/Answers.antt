@@ -1,5 +1,5 @@
 use Rattle.std.proofs.Common.{refl}
-use Rattle.scapconf.specs.Lines.{words}
+use Rattle.linewords.specs.Words.{words}
 use Rattle.scapconf.proofs.rows.lines_have_words.Goals as goal
 
 pub returns-clause-blanks : goal.returns-clause-blanks

@@ -1,5 +1,5 @@
 use Rattle.std.proofs.lemmas.Bool.{false≢true}
-use Rattle.scapconf.specs.Lines.{words}
+use Rattle.linewords.specs.Words.{words}
 use Rattle.scapconf.proofs.WordLemmas.{joined_utf8}
 use Rattle.scapconf.proofs.word.expression.Goals as goal
 

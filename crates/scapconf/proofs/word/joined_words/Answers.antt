@@ -1,5 +1,5 @@
 use Rattle.std.proofs.Common.{◌≡◌, ◌++◌, ap, sym, ◌∙◌, List, ℕ}
-use Rattle.scapconf.specs.Lines.{words}
+use Rattle.linewords.specs.Words.{words}
 use Rattle.scapconf.proofs.WordLemmas.{spaced, joined_first}
 use Rattle.scapconf.proofs.word.joined_words.Goals as goal
 

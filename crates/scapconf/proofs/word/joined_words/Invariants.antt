@@ -1,5 +1,6 @@
 use Rattle.std.proofs.Common.{◌≡◌, ◌++◌, length}
-use Rattle.scapconf.specs.Lines.{words, joined}
+use Rattle.linewords.specs.Words.{words}
+use Rattle.scapconf.specs.Lines.{joined}
 use Rattle.scapconf.proofs.WordLemmas.{spaced}
 use Rattle.scapconf.proofs.word.joined_words.Given as goal
 

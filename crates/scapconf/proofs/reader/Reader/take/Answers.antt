@@ -1,5 +1,5 @@
 use Rattle.std.proofs.Common.{sym, ◌∙◌, subst, ◌++◌, ◌∷◌, []}
-use Rattle.scapconf.specs.Lines.{Words}
+use Rattle.linewords.specs.Words.{Words}
 use Rattle.scapconf.specs.Parser.{Stands}
 use Rattle.scapconf.proofs.StepLemmas.{silent_step}
 use Rattle.scapconf.proofs.LineLemmas.{named_result, first_named, said_comment, said_words, silent_clean, text_fault, word_fault}

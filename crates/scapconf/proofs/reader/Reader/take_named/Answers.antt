@@ -1,6 +1,6 @@
 use Rattle.std.proofs.Common.{sym, ◌∙◌, ap, Bool, List}
 use Rattle.std.proofs.lemmas.Result.{err_from_is_err_and}
-use Rattle.scapconf.specs.Lines.{words}
+use Rattle.linewords.specs.Words.{words}
 use Rattle.scapconf.specs.Faults.{count_fits}
 use Rattle.scapconf.specs.Parser.{IsPassed, has_key, with_key}
 use Rattle.scapconf.proofs.StepLemmas.{stands_step}
@@ -50,6 +50,7 @@ returns c before stands =
         values = read_values c.args.name ws c.in_ok-setting.setting read.means;
         no_budget_fault = read.no_budget_fault;
         no_filter_fault = read.no_filter_fault;
+        no_rule_fault = read.no_rule_fault;
       },
       stands_step before ws c.args.name c.in_ok-setting.setting c.args.self.now c.mark.new.self c.requires.named read.means once
           (c.mark.ensures.same ∙ c.in_ok-apply.ensures.settings) (c.mark.ensures.seen ∙ ap (λ (s : List Bool). with_key s c.key_of-key.result) c.in_ok-apply.ensures.seen ∙ ap (with_key c.args.self.now.seen) c.key_of-key.ensures) stands,
