@@ -1,5 +1,5 @@
 -- The steps of a segment's entry: it comes, a run is granted or refused, and what is behind the last one.
-use Rattle.std.specs.Prelude.{◌≡◌, refl, ℕ, suc, ◌+◌, ◌-◌, ◌<◌, ◌≤◌, Bool, true, false, cond, ◌==◌, ◌||◌, nat_le, List, [], ◌∷◌, ◌++◌, length, map, flat_map, filter, fold, take, drop, min, max, Option, Some, None, ℤ, slice_get}
+use Rattle.std.specs.Prelude.{◌≡◌, refl, ℕ, suc, ◌+◌, ◌-◌, ◌<◌, ◌≤◌, Bool, true, false, cond, ◌==◌, ◌||◌, nat_le, List, [], ◌∷◌, ◌++◌, length, map, filter, fold, take, drop, min, max, Option, Some, None, ℤ, slice_get}
 use Rattle.std.proofs.Common.{sym, ◌∙◌, ap, subst, arith, append-nil}
 use mathlib.Core.List.{append_assoc}
 use Rattle.std.proofs.lemmas.Bool.Decides.{nat_tests}
@@ -7,20 +7,19 @@ use Rattle.std.proofs.lemmas.List.{length-drop, length-take, length-append}
 use Rattle.histbook.specs.declared.look_entry.LookEntry.{LookEntry}
 use Rattle.streamdefs.specs.Terms.{Terms}
 use Rattle.streamdefs.specs.Reorder.{Charge, Placed, placed_from, put_run, settled}
-use Rattle.streamdefs.specs.View.{front_after, is_fate, runs, granted, charged, charge_of, run_asks, ask_for_run, Ask, passed}
+use Rattle.streamdefs.specs.View.{front_after, is_fate, runs, granted, charged, charge_of, run_asks, ask_for_run, Ask}
 use Rattle.streamdefs.specs.Lists.{how_many}
 use Rattle.streamdefs.specs.View.Fate.{Late, Shown, Cut, Kept, Wanted}
-use Rattle.streamdefs.specs.Pending.{Piece, piece_of, spare_of, blocks, closed_by_gaps, pending_after}
 use Rattle.streamdefs.specs.Direction.{Kind, Direction, Segment, Deed, Counts, Next, lengths, counts_by, bytes_of, start_of, fate_in, runs_of, held_with, gone_by, view_after, next_by, asks_by, impatience, last_pending, blocks_of}
 use Rattle.streamdefs.specs.Direction.Deed.{Arrives}
 use Rattle.streamdefs.specs.Direction.Next.{Asks}
 use Rattle.reorder.specs.Frags.{Frag, end_of, size, Ascends, IsClear, cells_from, spread_one, spread, free, put, pass, overlaid, cells_of}
 use Rattle.reorder.specs.Frags.{run_in}
-use Rattle.reorder.proofs.Spread.{put_is, put_ascends, put_clear, pass_is, length_one}
-use Rattle.flowdir.specs.Lane.{Lane, lane_after, LaneStands}
-use Rattle.flowdir.specs.Asking.{Wait, placed_wait, WaitClear, IsLeft, Asking, HasPassed}
+use Rattle.reorder.proofs.Spread.{put_is, put_ascends, put_clear, length_one}
+use Rattle.flowdir.specs.Lane.{Lane, lane_after}
+use Rattle.flowdir.specs.Asking.{Wait, placed_wait, WaitClear, IsLeft, Asking}
 use Rattle.flowdir.specs.Waits.{wait_in}
-use Rattle.flowdir.proofs.Lanes.{lanes_on, end_is, front_joined}
+use Rattle.flowdir.proofs.Lanes.{end_is}
 use Rattle.reorder.proofs.Overlay.{settle_is, overlaid_ascends, overlaid_free}
 use Rattle.flowdir.specs.Classes.{at_of, bytes_at, inner_of, counts_with, counts_taken}
 use Rattle.streamdefs.specs.Ranges.{Range}
@@ -281,35 +280,6 @@ pass_ascends jumps low front fs a = ascends_front low (pass jumps front fs) (dro
 pub after_ascends : {C : Type 0} (moment : ℕ) (lane : Lane C) (ps rest : List (Frag C)) → Ascends lane.front (ps ++ rest) → Ascends (lane_after moment lane ps).front rest
 after_ascends moment lane [] rest a = a
 after_ascends moment lane (f ∷ ps) rest a = after_ascends moment (lane_with moment lane f) ps rest (subst (λ n. Ascends n (ps ++ rest)) (sym (end_is moment lane f a.0)) a.2)
-
--- What the entry passes is what its parts are.
-pub pass_entry : {C : Type 0} (paid : C → Charge) (t : Terms) (kind : Kind) (d : Direction) (s : Segment) (looks : List LookEntry) (fs : List (Frag C)) (counts : Counts) (lane : Lane C) (pieces : List Piece)
-    → Sorted paid t kind d s looks fs counts → LaneStands paid lane d.view.flow d.pending pieces [] → d.view.front ≡ lane.front
-    → HasPassed paid t kind d (Arrives s looks) (lane_after s.moment lane (pass (impatience t kind) lane.front fs)) (drop (length (pass (impatience t kind) lane.front fs)) fs) pieces
-pass_entry {C = C} paid t kind d s looks fs counts lane pieces h l e = record {
-  lane_is = lane_is;
-  held = (λ i. drop (length (gone i)) (h.held i)) ∙ left_behind paid (impatience t kind) lane.front fs;
-  ascends = after_ascends s.moment lane parts (drop (length parts) fs) (subst (λ gs. Ascends lane.front gs) (pass_parts (impatience t kind) lane.front fs) ascends);
-  front = ap (λ n. front_after n (gone_by t kind d (Arrives s looks))) (e ∙ sym l.flows.front_is) ∙ sym (front_joined 0 d.view.flow (gone_by t kind d (Arrives s looks))) ∙ lane_is.flows.front_is;
-}
-  where
-    parts : List (Frag C)
-    parts = pass (impatience t kind) lane.front fs
-
-    ascends : Ascends lane.front fs
-    ascends = subst (λ n. Ascends n fs) e h.ascends
-
-    gone : gone_by t kind d (Arrives s looks) ≡ spread paid parts
-    gone =
-        ap (λ live. cond live (passed (impatience t kind) d.view.front (held_with t kind d (Arrives s looks))) []) h.live
-        ∙ (λ i. passed (impatience t kind) (e i) (h.held i))
-        ∙ pass_is paid (impatience t kind) lane.front lane.front fs ascends
-
-    lane_is : LaneStands paid (lane_after s.moment lane parts) (d.view.flow ++ gone_by t kind d (Arrives s looks)) (last_pending t kind d (Arrives s looks)) (pieces ++ flat_map piece_of (blocks_of t kind d (Arrives s looks))) (flat_map spare_of (blocks_of t kind d (Arrives s looks)))
-    lane_is =
-        subst (λ ps. LaneStands paid (lane_after s.moment lane parts) (d.view.flow ++ ps) (pending_after s.moment d.pending (blocks d.view.front ps)) (pieces ++ flat_map piece_of (closed_by_gaps s.moment d.pending (blocks d.view.front ps))) (flat_map spare_of (closed_by_gaps s.moment d.pending (blocks d.view.front ps)))) (sym gone)
-        (subst (λ n. LaneStands paid (lane_after s.moment lane parts) (d.view.flow ++ spread paid parts) (pending_after s.moment d.pending (blocks n (spread paid parts))) (pieces ++ flat_map piece_of (closed_by_gaps s.moment d.pending (blocks n (spread paid parts)))) (flat_map spare_of (closed_by_gaps s.moment d.pending (blocks n (spread paid parts))))) (sym e)
-        (lanes_on paid s.moment lane d.view.flow d.pending pieces [] parts l (pass_ascends (impatience t kind) lane.front lane.front fs ascends)))
 
 -- A segment comes.
 

@@ -32,12 +32,11 @@ flip None false e = absurd (cc)
 flip (Some at) true e = absurd (cc)
 flip (Some at) false e = refl
 
-pub enters : {C : Type 0} (paid : C → Charge) (k : Kept C) (t : Terms) (d : Direction) (s : Segment) (pieces : List Piece) (start : ℤ) (fs : List (Frag C)) (ws : List Wait) (under : Under) (least : Option ℕ) → t.overlap ≡ 0
+pub enters : {C : Type 0} (paid : C → Charge) (k : Kept C) (t : Terms) (d : Direction) (s : Segment) (pieces : List Piece) (start : ℤ) (fs : List (Frag C)) (ws : List Wait) (under : Under) (least : Option ℕ)
     → Asking paid t (kind_of k.mode) d s [] start fs ws under.counts → HeadIs k (kind_of k.mode) d s → d.hole ≡ k.hole → Meets paid k.lane k.frags d → LaneStands paid k.lane d.view.flow d.pending pieces []
     → Ascends k.lane.front k.frags → MatchOption least (k.frags ≡ []) (λ at. BeginsAt at k.frags) → under.moment ≡ s.moment → under.front ≡ k.lane.front → is_some least ≡ not under.bare
     → RunsFor paid (record k { frags = fs; under = under; work = Runs start ws }) start ws t (kind_of k.mode) d s [] 0 pieces
-enters paid k t d s pieces start fs ws under least o q hd h m l a e mo f b = record {
-  plain = o;
+enters paid k t d s pieces start fs ws under least q hd h m l a e mo f b = record {
   asking = q;
   stays = record {
     lane = l;
@@ -50,3 +49,9 @@ enters paid k t d s pieces start fs ws under least o q hd h m l a e mo f b = rec
   };
   none = refl;
 }
+
+-- nothing is held where no part is first
+pub bare_none : {C : Type 0} (fs : List (Frag C)) (r : Option ℕ) → MatchOption r (fs ≡ []) (λ at. BeginsAt at fs) → is_none r ≡ is_empty fs
+bare_none fs None m = ap is_empty (sym m)
+bare_none [] (Some at) m = absurd m
+bare_none (f ∷ fs) (Some at) m = refl

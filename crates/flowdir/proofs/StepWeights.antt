@@ -1,6 +1,6 @@
 -- The charges of a step.
-use Rattle.std.specs.Prelude.{◌≡◌, refl, ℕ, ◌+◌, List, [], ◌∷◌, ◌++◌, Option, Some, None, option_map, option_to_list, IsNone}
-use Rattle.std.proofs.Common.{ap, arith, sym, ◌∙◌}
+use Rattle.std.specs.Prelude.{◌≡◌, refl, ℕ, ◌+◌, List, [], ◌∷◌, ◌++◌, Option, Some, None, option_map, option_to_list}
+use Rattle.std.proofs.Common.{ap, arith}
 use Rattle.chunkpart.specs.ChunkParts.{ChunkParts, parts_of}
 use Rattle.flowdir.specs.Boundary.{weight_of_chunk, weight_of_parts as weight_of_shown}
 use Rattle.flowdir.specs.Lane.{bundle_for, weight_of_charges, weight_of_part, weight_of_parts, weight_of_bundle, weight_of_bundles}
@@ -16,7 +16,7 @@ gives_weight k k' (Free c) h w = omega (arith, ap (λ x. weight_of_all w x.lane 
 gives_weight k k' (Done counts) h w = omega (arith, ap (λ x. weight_of_all w x.lane x.frags) h.2)
 
 -- The charges of a chunk that is taken.
-shown_weight : {C : Type 0} (w : C → ℕ) (xs ys : List (List ℕ × C)) → weight_of_shown w (xs ++ ys) ≡ weight_of_shown w xs + weight_of_shown w ys
+pub shown_weight : {C : Type 0} (w : C → ℕ) (xs ys : List (List ℕ × C)) → weight_of_shown w (xs ++ ys) ≡ weight_of_shown w xs + weight_of_shown w ys
 shown_weight w [] ys = omega arith
 shown_weight w (x ∷ xs) ys = omega (arith, shown_weight w xs ys)
 

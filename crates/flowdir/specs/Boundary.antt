@@ -1,5 +1,5 @@
 -- What the layer above a direction uses: what a direction stands for, and what its steps are.
-use Rattle.std.specs.Prelude.{◌≡◌, ⊤, ℕ, ◌≤◌, ◌<◌, ◌+◌, ◌^◌, List, [], ◌∷◌, ◌++◌, map, Option, Some, None, true, false, cond, nat_le}
+use Rattle.std.specs.Prelude.{◌≡◌, ⊤, ℕ, ◌≤◌, ◌+◌, ◌^◌, List, [], ◌∷◌, ◌++◌, map, Option, Some, None, true, false, cond, nat_le}
 use Rattle.histbook.specs.declared.look_entry.LookEntry.{LookEntry}
 use Rattle.overpolicy.specs.declared.shape.Shape.{Shape}
 use Rattle.chunkpart.specs.ChunkParts.{ChunkParts, copied_bytes, fresh_bytes, parts_of}
@@ -16,7 +16,7 @@ use Rattle.flowdir.specs.declared.dir_mode.DirMode.TheVariants.{Strict as Strict
 use Rattle.flowdir.specs.declared.seg.Seg.{Seg}
 use Rattle.flowdir.specs.declared.step.Step.{Step}
 use Rattle.flowdir.specs.declared.step.Step.TheVariants.{Ask, Free, Done}
-use Rattle.flowdir.specs.Counting.{classes_of, all_of}
+use Rattle.flowdir.specs.Counting.{classes_of}
 
 -- Where a direction stands between calls: nothing is under way, or an entry by these settings, with its looks so far, of whose
 -- spare charges so many were given back.
@@ -109,11 +109,15 @@ abbrev pub weight_of_chunk : {C : Type 0} → (C → ℕ) → Option (ChunkParts
 weight_of_chunk weight None = 0
 weight_of_chunk weight (Some chunk) = weight_of_parts weight (parts_of chunk)
 
--- the counts of a step are those of few bytes
-abbrev pub HasFewCounts : {C : Type 0} → Step C → Type 0
-HasFewCounts (Ask bytes) = (1 ≤ bytes) × (bytes < 2 ^ 32)
-HasFewCounts (Free charge) = ⊤
-HasFewCounts (Done counts) = all_of counts ≤ 262144
+-- what is asked for is something
+abbrev pub AsksSome : {C : Type 0} → Step C → Type 0
+AsksSome (Ask bytes) = 1 ≤ bytes
+AsksSome (Free charge) = ⊤
+AsksSome (Done counts) = ⊤
+
+-- a charge stands for as many bytes as its amount
+abbrev pub IsPaidBy : {C : Type 0} → (C → ℕ) → (C → Charge) → Type 0
+IsPaidBy {C = C} amount paid = (c : C) → (paid c).bytes ≡ amount c
 
 -- the first of the deliveries that are to be taken, and the others behind it
 abbrev pub IsFirst : {C : Type 0} → (C → Charge) → (List Piece → Type 0) → List Piece → Option (ChunkParts C) → Type 0

@@ -1,8 +1,9 @@
 // Where a segment begins and ends.
-ghost use Rattle.std.specs.Prelude.{◌≡◌, ℕ, ◌+◌, ◌%◌, ◌<◌, ◌≤◌, ◌^◌, cond, pos, Option, Some, IfSome, unwrap_or, unsigned_abs, length};
+ghost use Rattle.std.specs.Prelude.{◌≡◌, ℕ, ◌+◌, ◌%◌, ◌<◌, ◌≤◌, ◌^◌, cond, max, pos, Option, Some, unwrap_or, unsigned_abs, length};
 ghost use Rattle.streamdefs.specs.Direction.{Direction, Segment, start_of as start_in, past_start, payload_seq as seq_of};
 ghost use Rattle.streamdefs.specs.Seqspace.{place as position};
 ghost use Rattle.flowdir.specs.Boundary.{kind_of, number_of};
+ghost use Rattle.flowdir.specs.Classes.{at_of};
 ghost use Rattle.flowdir.specs.Heading.{fin_with, start_by, Tells, Says, AimsAt};
 
 use crate::aim::Aim;
@@ -27,30 +28,17 @@ pub(crate) fn base_with(base: Option<Seq>, seq: Seq) -> Seq
     }
 }
 
-/// Where a segment begins, if that is within reach.
-pub(crate) fn start_at(mode: DirMode, base: Seq, seq: Seq, front: u64, sent: u64) -> Option<i64>
-    ensures start { IfSome result (λ start. start ≡ start_by mode base.0 seq.0 front sent) }
-    ensures near { IfSome result (λ start. unsigned_abs start < 2 ^ 63) }
+/// Where a segment begins.
+#[tactic(auto, using(crate::proofs::Reach::at_near, crate::proofs::Reach::fits_near))]
+pub(crate) fn start_at(mode: DirMode, base: Seq, seq: Seq, front: u64, sent: u64) -> i64
+    requires near { (front < 2 ^ 62) × (sent < 2 ^ 62) }
+    ensures start { result ≡ start_by mode base.0 seq.0 front sent }
+    ensures near { at_of result ≤ max (front + 2 ^ 31) sent }
+    ensures fits { unsigned_abs result < 2 ^ 63 }
 {
     match mode {
-        DirMode::Udp => {
-            if sent < 0x4000_0000_0000_0000 {
-                Some(sent as i64)
-            } else {
-                None
-            }
-        }
-        DirMode::Strict | DirMode::Fast => {
-            if front >= 0x4000_0000_0000_0000 {
-                return None;
-            }
-            let start = place(base, seq, front);
-            if start.unsigned_abs() < 0x4000_0000_0000_0000 {
-                Some(start)
-            } else {
-                None
-            }
-        }
+        DirMode::Udp => sent as i64,
+        DirMode::Strict | DirMode::Fast => place(base, seq, front),
     }
 }
 
@@ -81,7 +69,7 @@ pub(crate) fn fin_by(known: Option<u64>, fin: bool, start: i64, declared: u32) -
     }
 }
 
-/// Where a segment begins, and what is kept of its header behind it. None where a number would be out of reach.
+/// Where a segment begins, and what is kept of its header behind it.
 #[tactic(auto, using(crate::proofs::AimLemmas::aims_at))]
 pub(crate) fn aim(
     mode: DirMode,
@@ -90,24 +78,27 @@ pub(crate) fn aim(
     fin: Option<u64>,
     front: u64,
     seg: &Seg<'_>,
-) -> Option<Aim>
-    ensures aims { IfSome result (λ aim. (d : Direction) (s : Segment) → Tells (number_of base) sent front fin d
-        → Says seg.entry.now.seq.0 seg.entry.now.declared (length seg.entry.now.payload.now) seg.entry.now.syn seg.entry.now.fin s → AimsAt aim (kind_of mode) d s) }
-    ensures near { IfSome result (λ aim. unsigned_abs aim.start < 2 ^ 63) }
-    ensures last { IfSome result (λ aim. aim.head.last ≡ seg.entry.now.number) }
+) -> Aim
+    requires near { (front < 2 ^ 62) × (sent < 2 ^ 62) }
+    requires few { length seg.now.payload.now ≤ 262144 }
+    ensures aims { (d : Direction) (s : Segment) → Tells (number_of base) sent front fin d
+        → Says seg.entry.now.seq.0 seg.entry.now.declared (length seg.entry.now.payload.now) seg.entry.now.syn seg.entry.now.fin s → AimsAt result (kind_of mode) d s }
+    ensures near { at_of result.start ≤ max (front + 2 ^ 31) sent }
+    ensures fits { unsigned_abs result.start < 2 ^ 63 }
+    ensures sent { result.head.sent ≡ sent + length seg.entry.now.payload.now }
+    ensures last { result.head.last ≡ seg.entry.now.number }
 {
     let seq = payload_seq(seg.seq, seg.syn);
     let base = base_with(base, seq);
-    let start = start_at(mode, base, seq, front, sent)?;
-    let summed = sent.checked_add(seg.payload.len() as u64)?;
+    let start = start_at(mode, base, seq, front, sent);
     let fin = fin_by(fin, seg.fin, start, seg.declared);
-    Some(Aim {
+    Aim {
         start,
         head: Head {
             base,
-            sent: summed,
+            sent: sent + seg.payload.len() as u64,
             fin,
             last: seg.number,
         },
-    })
+    }
 }

@@ -3,19 +3,33 @@
 //! Stands on reorder, chunkpart, prio_budget, seqspace and the definitions of streamdefs.
 #![tactic(auto)]
 
+mod advance;
 mod aim;
 mod counts;
+mod cuts;
 mod cutting;
 mod dir;
+mod dir_answers;
+mod dir_cuts;
 mod dir_mode;
+mod dir_segments;
+mod dir_times;
+#[cfg(test)]
+mod drawn_tests;
 mod head;
 mod heading;
 mod losses;
 mod passed;
 mod passing;
+#[cfg(test)]
+mod pool;
 mod rule;
 mod running;
 mod seg;
+#[cfg(test)]
+mod serving;
+#[cfg(test)]
+mod slow;
 mod sorting;
 mod span;
 mod step;

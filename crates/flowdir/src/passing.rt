@@ -1,10 +1,11 @@
 // Passing what is held.
 ghost use Rattle.std.specs.Prelude.{◌≡◌, ℕ, ◌+◌, ◌<◌, ◌≤◌, ◌^◌, length, IfOk, OnOk, MatchOption};
 ghost use Rattle.reorder.specs.Frags.{Ascends, BeginsAt};
-ghost use Rattle.flowdir.specs.Passing.{jumps_by, PassesOne, Passes, GoesOn, weight_of_all};
+ghost use Rattle.flowdir.specs.Passing.{jumps_by, PassesOne, Passes, GoesOn, Advances, weight_of_all};
 ghost use Rattle.reorder.specs.Frags.{EndBy};
 
 use crate::Memory;
+use crate::advance::Advance;
 use crate::passed::Passed;
 use crate::rule::{Rule, jumps};
 use prio_budget::Charge;
@@ -22,6 +23,7 @@ fn pass_one<C: Charge>(
     requires begins { BeginsAt at store.old.frags }
     requires ascends { Ascends passed.old.lane.front store.old.frags }
     requires near { EndBy (2 ^ 62) store.old.frags }
+    requires soon { moment ≤ 2 ^ 62 }
     ensures ok { OnOk result (PassesOne moment passed.old.lane store.old.frags passed.new.lane store.new.frags) }
     ensures weight { (w : C → ℕ) → weight_of_all w passed.new.lane store.new.frags ≡ weight_of_all w passed.old.lane store.old.frags }
 {
@@ -45,6 +47,7 @@ fn pass_turn<C: Charge>(
 ) -> Result<Option<u64>, Memory>
     requires ascends { Ascends passed.old.lane.front store.old.frags }
     requires near { EndBy (2 ^ 62) store.old.frags }
+    requires soon { moment ≤ 2 ^ 62 }
     ensures turns { IfOk result (λ next. MatchOption next
         (Passes (jumps_by rule) moment from passed.old.lane store.old.frags passed.new.lane store.new.frags)
         (λ from'. GoesOn (jumps_by rule) moment from passed.old.lane store.old.frags from' passed.new.lane store.new.frags)) }
@@ -73,6 +76,7 @@ pub(crate) fn pass_on<C: Charge>(
 ) -> Result<(), Memory>
     requires ascends { Ascends passed.old.lane.front store.old.frags }
     requires near { EndBy (2 ^ 62) store.old.frags }
+    requires soon { moment ≤ 2 ^ 62 }
     ensures passes { OnOk result (Passes (jumps_by rule) moment start passed.old.lane store.old.frags passed.new.lane store.new.frags) }
     ensures weight { (w : C → ℕ) → weight_of_all w passed.new.lane store.new.frags ≡ weight_of_all w passed.old.lane store.old.frags }
 {
@@ -81,4 +85,25 @@ pub(crate) fn pass_on<C: Charge>(
         from = next;
     }
     Ok(())
+}
+
+/// Passes what an entry passes.
+#[tactic(auto, using(crate::proofs::Advancing::advances_on, crate::proofs::Advancing::advances_none))]
+pub(crate) fn advance<C: Charge>(
+    alloc: Global,
+    moment: u64,
+    passed: &mut Passed<C>,
+    store: &mut Store<C>,
+    way: Advance,
+) -> Result<(), Memory>
+    requires ascends { Ascends passed.old.lane.front store.old.frags }
+    requires near { EndBy (2 ^ 62) store.old.frags }
+    requires soon { moment ≤ 2 ^ 62 }
+    ensures advances { OnOk result (Advances way moment passed.old.lane store.old.frags passed.new.lane store.new.frags) }
+    ensures weight { (w : C → ℕ) → weight_of_all w passed.new.lane store.new.frags ≡ weight_of_all w passed.old.lane store.old.frags }
+{
+    match way {
+        Advance::Stay => Ok(()),
+        Advance::From { at, rule } => pass_on(alloc, moment, passed, store, at, rule),
+    }
 }

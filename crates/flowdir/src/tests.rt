@@ -1,74 +1,20 @@
-ghost use Rattle.std.specs.Prelude.{◌≡◌, ◌<◌, ◌≤◌, ◌^◌, length, Some, IfSome, IfOk, OnOk};
-ghost use Rattle.flowdir.specs.Boundary.{asked_by};
-ghost use Rattle.flowdir.specs.Kept.{bytes_next};
+ghost use Rattle.std.specs.Prelude.{◌≡◌};
 
-use crate::{Counts, Dir, DirMode, Seg, Step};
+use crate::pool::{Granted, Pool};
+use crate::serving::{come, end, fall_due};
+use crate::{Counts, Dir, DirMode, Seg};
 use chunkpart::Chunk;
 use overpolicy::{Mode, Policy, Shape};
-use prio_budget::Charge;
 use seqspace::Seq;
 use std::alloc::Global;
 use std::test::Fail;
 
-/// What a grant left, for tests of directions alone.
-#[derive(Debug, PartialEq, Eq, Drop)]
-struct Granted {
-    amount: u32,
-    stamp: u32,
-}
+/// An entry: its moment, and a segment's sequence number, its flags (S: SYN, F: FIN, D: not live), the bytes that its header
+/// declares beyond those that were captured, and its bytes; or, with the flag T, a moment that falls due.
+type Entry<'a> = (u64, u32, &'a str, u32, &'a str);
 
-impl Charge for Granted {
-    ghost use Rattle.prio_budget.specs.Share.{no_share};
-
-    ghost amount = { λ c. c.amount };
-
-    ghost stamp = { λ c. c.stamp };
-
-    ghost share = { λ _. no_share };
-
-    fn amount(&self) -> u32 {
-        self.amount
-    }
-
-    fn stamp(&self) -> u32 {
-        self.stamp
-    }
-}
-
-/// A budget that grants up to a mark.
-#[derive(Drop)]
-struct Pool {
-    mark: u32,
-    used: u32,
-    stamp: u32,
-}
-
-impl Pool {
-    fn ask(&mut self, bytes: u32) -> Option<Granted>
-        ensures { IfSome result (λ charge. charge.amount ≡ bytes) }
-    {
-        let used = self.used.checked_add(bytes)?;
-        if used > self.mark {
-            return None;
-        }
-        self.used = used;
-        let stamp = self.stamp;
-        self.stamp = stamp.saturating_add(1);
-        Some(Granted {
-            amount: bytes,
-            stamp,
-        })
-    }
-
-    fn give(&mut self, charge: Granted) {
-        self.used = self.used.saturating_sub(charge.amount);
-        self.stamp = self.stamp.saturating_add(1);
-    }
-}
-
-/// A direction's segments by their sequence numbers, flags (S: SYN, F: FIN), the bytes that their headers declare beyond those
-/// that were captured, and bytes; and what comes of them: the counts of the last one, front and FIN position behind it, and the
-/// deliveries once the direction has ended, by start, gap and bytes.
+/// A direction's entries, and what comes of them: the counts of the last one, front and FIN position behind it, and the
+/// deliveries once the direction has ended, by start, gap and bytes shown. The asks named by the bits of `refused` are refused.
 #[derive(Clone, Copy)]
 struct Row<'a> {
     mode: DirMode,
@@ -76,12 +22,19 @@ struct Row<'a> {
     reorder: u32,
     cutoff: Option<u64>,
     mark: u32,
-    segments: &'a [(u32, &'a str, u32, &'a str)],
+    refused: u64,
+    chunk: u32,
+    overlap: u32,
+    flush: u64,
+    entries: &'a [Entry<'a>],
     counts: (u64, u64, u64, u64, u64),
     front: u64,
     fin: Option<u64>,
     chunks: &'a [(u64, u64, &'a str)],
 }
+
+/// A second, in nanoseconds.
+const SECOND: u64 = 1_000_000_000;
 
 /// One that is strict, without limits.
 const PLAIN: Row<'static> = Row {
@@ -90,101 +43,31 @@ const PLAIN: Row<'static> = Row {
     reorder: 65536,
     cutoff: None,
     mark: 1_000_000,
-    segments: &[],
+    refused: 0,
+    chunk: 16384,
+    overlap: 0,
+    flush: 0,
+    entries: &[],
     counts: (0, 0, 0, 0, 0),
     front: 0,
     fin: None,
     chunks: &[],
 };
 
-fn shape(policy: Policy, reorder: u32) -> Shape {
+fn shape(row: &Row<'_>) -> Shape {
     Shape {
         mode: Mode::Strict,
-        policy,
-        chunk: 16384,
-        overlap: 0,
-        flush: 0,
-        hole: 1_000_000_000,
-        reorder,
+        policy: row.policy,
+        chunk: row.chunk,
+        overlap: row.overlap,
+        flush: row.flush,
+        hole: SECOND,
+        reorder: row.reorder,
         idle: 300_000_000_000,
     }
 }
 
-/// Tells a direction what its ask was answered.
-fn tell(
-    alloc: Global,
-    dir: &mut Dir<Granted>,
-    shape: &Shape,
-    granted: Option<Granted>,
-) -> Result<Step<Granted>, Fail>
-    requires { IfSome granted (λ charge. bytes_next dir.old.work ≡ Some charge.amount) }
-    ensures asked { IfOk result (λ step. bytes_next dir.new.work ≡ asked_by step) }
-    ensures last { dir.new.last ≡ dir.old.last }
-{
-    match dir.told(alloc, shape, granted) {
-        Ok(step) => Ok(step),
-        Err(_) => Err("told: out of memory".into()),
-    }
-}
-
-/// Tells it that its charge was given back.
-fn free(dir: &mut Dir<Granted>) -> Result<Step<Granted>, Fail>
-    ensures asked { IfOk result (λ step. bytes_next dir.new.work ≡ asked_by step) }
-    ensures last { dir.new.last ≡ dir.old.last }
-{
-    match dir.freed() {
-        Ok(step) => Ok(step),
-        Err(_) => Err("freed: out of memory".into()),
-    }
-}
-
-/// Answers what an entry wants until it is done.
-fn serve(
-    alloc: Global,
-    dir: &mut Dir<Granted>,
-    shape: &Shape,
-    pool: &mut Pool,
-    first: Step<Granted>,
-) -> Result<Counts, Fail>
-    requires { bytes_next dir.old.work ≡ asked_by first }
-    ensures last { dir.new.last ≡ dir.old.last }
-{
-    let mut step = first;
-    'wants: for _ in 0..100 {
-        step = match step {
-            Step::Done(counts) => return Ok(counts),
-            Step::Ask { bytes } => tell(alloc, dir, shape, pool.ask(bytes))?,
-            Step::Free(charge) => {
-                pool.give(charge);
-                free(dir)?
-            }
-        };
-    }
-    Err("an entry goes on and on".into())
-}
-
-/// A segment comes.
-fn come(
-    alloc: Global,
-    dir: &mut Dir<Granted>,
-    shape: &Shape,
-    pool: &mut Pool,
-    seg: &Seg<'_>,
-    cutoff: Option<u64>,
-) -> Result<Counts, Fail>
-    requires number { (dir.old.last < seg.now.number) × (seg.now.number ≤ 2 ^ 22) }
-    ensures last { OnOk result (dir.new.last ≡ seg.entry.now.number) }
-{
-    if seg.payload.len() > 262_144 {
-        return Err("too many bytes".into());
-    }
-    let Ok(step) = dir.begin(alloc, shape, seg, cutoff) else {
-        return Err("begin: out of memory".into());
-    };
-    serve(alloc, dir, shape, pool, step)
-}
-
-/// The segments of a row come. Gives the counts of the last one.
+/// The entries of a row come. Gives the counts of the last segment.
 fn come_all(
     alloc: Global,
     dir: &mut Dir<Granted>,
@@ -193,11 +76,7 @@ fn come_all(
 ) -> Result<Counts, Fail>
     requires { dir.old.last ≡ 0 }
 {
-    let mut pool = Pool {
-        mark: row.mark,
-        used: 0,
-        stamp: 0,
-    };
+    let mut pool = Pool::new(row.mark, row.refused);
     let mut counts = Counts {
         duplicate: 0,
         late: 0,
@@ -206,9 +85,13 @@ fn come_all(
         shed: 0,
     };
     let mut number: u32 = 0;
-    'segments: for &(seq, flags, more, bytes) in row.segments {
-        if number >= 100 {
+    'entries: for &(now, seq, flags, more, bytes) in row.entries {
+        if number >= 100 || now > 1_000_000_000_000 {
             return Err("too many segments".into());
+        }
+        if flags == "T" {
+            fall_due(alloc, dir, shape, &mut pool, now)?;
+            continue;
         }
         number += 1;
         let Ok(len) = u32::try_from(bytes.len()) else {
@@ -216,11 +99,11 @@ fn come_all(
         };
         let seg = Seg {
             number,
-            now: 0,
+            now,
             seq: Seq(seq),
             syn: flags == "S",
             fin: flags == "F",
-            live: true,
+            live: flags != "D",
             declared: len.saturating_add(more),
             payload: bytes.as_bytes(),
         };
@@ -275,20 +158,17 @@ fn are_counts(counts: Counts, wanted: (u64, u64, u64, u64, u64)) -> bool {
 
 /// Whether a row comes out as it says.
 fn holds(alloc: Global, row: &Row<'_>) -> Result<bool, Fail> {
-    let shape = shape(row.policy, row.reorder);
+    let shape = shape(row);
     let mut dir = Dir::new(alloc, row.mode);
     let counts = come_all(alloc, &mut dir, &shape, row)?;
     if !are_counts(counts, row.counts) || dir.front() != row.front || dir.fin() != row.fin {
         return Ok(false);
     }
-    match dir.end(alloc, 0) {
-        Ok(Step::Done(_)) => hands_over(alloc, &mut dir, row.chunks),
-        Ok(_) => Ok(false),
-        Err(_) => Err("end: out of memory".into()),
-    }
+    end(alloc, &mut dir, &shape)?;
+    hands_over(alloc, &mut dir, row.chunks)
 }
 
-const SYN: (u32, &str, u32, &str) = (4_294_967_295, "S", 0, "");
+const SYN: Entry<'static> = (0, 4_294_967_295, "S", 0, "");
 
 const A10: &str = "AAAAAAAAAA";
 
@@ -299,8 +179,18 @@ const C10: &str = "CCCCCCCCCC";
 #[test]
 fn overlap_is_settled_by_the_policies(rt: HostRuntime) -> Result<(), Fail> {
     let alloc = rt.alloc();
-    let long = [SYN, (10, "", 0, A10), (5, "", 0, B10), (0, "", 0, C10)];
-    let short = [SYN, (10, "", 0, A10), (10, "", 0, "BBBBB"), (0, "", 0, C10)];
+    let long = [
+        SYN,
+        (0, 10, "", 0, A10),
+        (0, 5, "", 0, B10),
+        (0, 0, "", 0, C10),
+    ];
+    let short = [
+        SYN,
+        (0, 10, "", 0, A10),
+        (0, 10, "", 0, "BBBBB"),
+        (0, 0, "", 0, C10),
+    ];
     let rows = [
         (
             Policy::First,
@@ -321,7 +211,7 @@ fn overlap_is_settled_by_the_policies(rt: HostRuntime) -> Result<(), Fail> {
                 alloc,
                 &Row {
                     policy,
-                    segments: &long,
+                    entries: &long,
                     counts: (5, 0, 0, 5, 0),
                     front: 20,
                     chunks: &[(0, 0, both)],
@@ -334,7 +224,7 @@ fn overlap_is_settled_by_the_policies(rt: HostRuntime) -> Result<(), Fail> {
                 alloc,
                 &Row {
                     policy,
-                    segments: &short,
+                    entries: &short,
                     counts: (0, 0, 0, 10, 0),
                     front: 20,
                     chunks: &[(0, 0, one)],
@@ -352,14 +242,16 @@ fn segments_are_taken_shed_and_passed(rt: HostRuntime) -> Result<(), Fail> {
     let request =
         "GET / HTTP/1.1\r\nHost: example.org\r\nUser-Agent: test/1.0\r\nAccept: text/html\r\n\r\n";
     let fifty = "aaaaaaaaaaaaaaaaaaaaaaaaaaaaaaaaaaaaaaaaaaaaaaaaaa";
+    let hundred =
+        "bbbbbbbbbbbbbbbbbbbbbbbbbbbbbbbbbbbbbbbbbbbbbbbbbbbbbbbbbbbbbbbbbbbbbbbbbbbbbbbbbbbbbbbbbbbbbbbbbbbb";
     let rows = [
         // A connection's request, and its FIN behind it.
         Row {
-            segments: &[
-                (1000, "S", 0, ""),
-                (1001, "", 0, ""),
-                (1001, "", 0, request),
-                (1079, "F", 0, ""),
+            entries: &[
+                (0, 1000, "S", 0, ""),
+                (0, 1001, "", 0, ""),
+                (0, 1001, "", 0, request),
+                (0, 1079, "F", 0, ""),
             ],
             front: 78,
             fin: Some(78),
@@ -368,10 +260,10 @@ fn segments_are_taken_shed_and_passed(rt: HostRuntime) -> Result<(), Fail> {
         },
         // Sequence numbers wrap.
         Row {
-            segments: &[
-                (4_294_967_294, "S", 0, ""),
-                (4_294_967_295, "", 0, "abcd"),
-                (3, "", 0, "ef"),
+            entries: &[
+                (0, 4_294_967_294, "S", 0, ""),
+                (0, 4_294_967_295, "", 0, "abcd"),
+                (0, 3, "", 0, "ef"),
             ],
             counts: (0, 0, 0, 2, 0),
             front: 6,
@@ -381,15 +273,19 @@ fn segments_are_taken_shed_and_passed(rt: HostRuntime) -> Result<(), Fail> {
         // A fast direction doesn't fill a gap later.
         Row {
             mode: DirMode::Fast,
-            segments: &[(0, "", 0, fifty), (100, "", 0, fifty), (50, "", 0, fifty)],
+            entries: &[
+                (0, 0, "", 0, fifty),
+                (0, 100, "", 0, hundred),
+                (0, 50, "", 0, fifty),
+            ],
             counts: (0, 50, 0, 0, 0),
-            front: 150,
-            chunks: &[(0, 0, fifty), (100, 50, fifty)],
+            front: 200,
+            chunks: &[(0, 0, fifty), (100, 50, hundred)],
             ..PLAIN
         },
         // A byte before the front was shown.
         Row {
-            segments: &[SYN, (0, "", 0, A10), (9, "", 0, "x")],
+            entries: &[SYN, (0, 0, "", 0, A10), (0, 9, "", 0, "x")],
             counts: (1, 0, 0, 0, 0),
             front: 10,
             chunks: &[(0, 0, A10)],
@@ -398,7 +294,7 @@ fn segments_are_taken_shed_and_passed(rt: HostRuntime) -> Result<(), Fail> {
         // A cutoff of 10.
         Row {
             cutoff: Some(10),
-            segments: &[SYN, (0, "", 0, "abcdefgh"), (8, "", 0, "ijklmn")],
+            entries: &[SYN, (0, 0, "", 0, "abcdefgh"), (0, 8, "", 0, "ijklmn")],
             counts: (0, 0, 4, 2, 0),
             front: 10,
             chunks: &[(0, 0, "abcdefghij")],
@@ -407,11 +303,11 @@ fn segments_are_taken_shed_and_passed(rt: HostRuntime) -> Result<(), Fail> {
         // The second of three runs is refused.
         Row {
             mark: 15,
-            segments: &[
+            entries: &[
                 SYN,
-                (5, "", 0, "aaaaa"),
-                (15, "", 0, "bbbbb"),
-                (0, "", 0, "ccccccccccccccccccccccccc"),
+                (0, 5, "", 0, "aaaaa"),
+                (0, 15, "", 0, "bbbbb"),
+                (0, 0, "", 0, "ccccccccccccccccccccccccc"),
             ],
             counts: (10, 0, 0, 5, 10),
             front: 10,
@@ -421,7 +317,7 @@ fn segments_are_taken_shed_and_passed(rt: HostRuntime) -> Result<(), Fail> {
         // The front jumps where more than 10 bytes are held.
         Row {
             reorder: 10,
-            segments: &[SYN, (5, "", 0, A10), (15, "", 0, "b")],
+            entries: &[SYN, (0, 5, "", 0, A10), (0, 15, "", 0, "b")],
             counts: (0, 0, 0, 1, 0),
             front: 16,
             chunks: &[(5, 5, "AAAAAAAAAAb")],
@@ -429,7 +325,7 @@ fn segments_are_taken_shed_and_passed(rt: HostRuntime) -> Result<(), Fail> {
         },
         Row {
             reorder: 10,
-            segments: &[SYN, (5, "", 0, A10)],
+            entries: &[SYN, (0, 5, "", 0, A10)],
             counts: (0, 0, 0, 10, 0),
             front: 0,
             chunks: &[(5, 5, A10)],
@@ -437,11 +333,109 @@ fn segments_are_taken_shed_and_passed(rt: HostRuntime) -> Result<(), Fail> {
         },
         // A FIN segment of which a part was captured.
         Row {
-            segments: &[SYN, (0, "F", 90, "0123456789")],
+            entries: &[SYN, (0, 0, "F", 90, "0123456789")],
             counts: (0, 0, 0, 10, 0),
             front: 10,
             fin: Some(100),
             chunks: &[(0, 0, "0123456789")],
+            ..PLAIN
+        },
+        // A segment that isn't live is late.
+        Row {
+            entries: &[SYN, (0, 0, "", 0, A10), (0, 10, "D", 0, "xxxxx")],
+            counts: (0, 5, 0, 0, 0),
+            front: 10,
+            chunks: &[(0, 0, A10)],
+            ..PLAIN
+        },
+    ];
+    for row in &rows {
+        assert!(rt; holds(alloc, row)?);
+    }
+    Ok(())
+}
+
+#[test]
+fn holes_and_flushes_fall_due_and_ends_are_shown_again(rt: HostRuntime) -> Result<(), Fail> {
+    let alloc = rt.alloc();
+    let datagrams = [
+        (0, 0, "", 0, "abc"),
+        (0, 0, "", 0, "def"),
+        (0, 0, "", 0, "ghi"),
+    ];
+    let rows = [
+        // A hole is passed a second after it stood.
+        Row {
+            entries: &[
+                (0, 99, "S", 0, ""),
+                (SECOND, 105, "", 0, "fghij"),
+                (2_000_000_000, 0, "T", 0, ""),
+                (3_000_000_000, 100, "", 0, "abcde"),
+            ],
+            counts: (0, 5, 0, 0, 0),
+            front: 10,
+            chunks: &[(5, 5, "fghij")],
+            ..PLAIN
+        },
+        // Before that it isn't.
+        Row {
+            entries: &[
+                (0, 99, "S", 0, ""),
+                (SECOND, 105, "", 0, "fghij"),
+                (1_999_999_999, 0, "T", 0, ""),
+                (3_000_000_000, 100, "", 0, "abcde"),
+            ],
+            counts: (0, 0, 0, 5, 0),
+            front: 10,
+            chunks: &[(0, 0, "abcdefghij")],
+            ..PLAIN
+        },
+        // A datagram waits for more for half a second.
+        Row {
+            mode: DirMode::Udp,
+            flush: 500_000_000,
+            entries: &[
+                (0, 0, "", 0, "ab"),
+                (500_000_000, 0, "T", 0, ""),
+                (2_000_000_000, 0, "", 0, "cd"),
+            ],
+            counts: (0, 0, 0, 2, 0),
+            front: 4,
+            chunks: &[(0, 0, "ab"), (2, 0, "cd")],
+            ..PLAIN
+        },
+        // A delivery begins with the last two bytes of the one before.
+        Row {
+            mode: DirMode::Udp,
+            chunk: 4,
+            overlap: 2,
+            entries: &datagrams,
+            counts: (0, 0, 0, 3, 0),
+            front: 9,
+            chunks: &[(0, 0, "abcdef"), (6, 0, "efghi")],
+            ..PLAIN
+        },
+        // The copy is refused.
+        Row {
+            mode: DirMode::Udp,
+            chunk: 4,
+            overlap: 2,
+            refused: 0b100,
+            entries: &datagrams,
+            counts: (0, 0, 0, 3, 0),
+            front: 9,
+            chunks: &[(0, 0, "abcdef"), (6, 0, "ghi")],
+            ..PLAIN
+        },
+        // A gap comes behind the copy.
+        Row {
+            mode: DirMode::Fast,
+            chunk: 4,
+            overlap: 2,
+            entries: &[(0, 0, "", 0, "abcd"), (0, 10, "", 0, "efgh")],
+            counts: (0, 0, 0, 4, 0),
+            front: 14,
+            chunks: &[(0, 0, "abcd"), (10, 6, "efgh")],
             ..PLAIN
         },
     ];

@@ -14,4 +14,7 @@ invariant_of-self-2 g c = (
       c.self.inside.store.frags c.pass_on.new.store.frags (working_for c.self.inside.work) (subst (λ k. IsLive k.work) (sym c.self.view_is) c.requires.live) c.self.invariant.0
       c.in_ok-pass_on.ensures.passes (ap (λ x. x.front) c.in_ok-spare_copy.ensures.ok ∙ ap (λ x. x.front) c.in_ok-close_chunk.ensures.ok),
   tt,
+  c.self.invariant.2,
+  c.self.invariant.3,
+  tt,
 )
