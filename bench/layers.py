@@ -6,9 +6,12 @@
 1,000,000 numbers pass from one thread to another through a ring of 1, 16 and 256 places. `word` and `locked`: 1, 2 and
 4 threads ask the budget word, and a plain budget behind a lock, 1,000,000 times each, and release at once what is
 granted. `dues`: moments are set for 10,000, 100,000 and 1,000,000 ids, set anew, and taken out as they fall due.
+`order`: a direction takes 10,000 and 100,000 segments of 100 bytes, each behind the one before. `held`: it takes 10,000
+segments of 90 bytes over 100 and 1,000 fragments that are held.
 
 The time is the best of the runs. Ends with 1 where a run fails, not all records, bytes, numbers and moments came in
-their order, a plain budget or the word in one thread refused an ask, or a hash or core is not that of toeplitz.py,
+their order, a plain budget or the word in one thread refused an ask, a direction took other bytes than those that no earlier segment
+brought, or a hash or core is not that of toeplitz.py,
 which is compared on shorter runs.
 """
 
@@ -39,6 +42,13 @@ PLACES = (1, 16, 256)
 ASKS = 1_000_000
 THREADS = (1, 2, 4)
 IDS = (10_000, 100_000, 1_000_000)
+SEGMENTS = (10_000, 100_000)
+OVER_HELD = 10_000
+FRAGMENTS = (100, 1_000)
+FRAGMENT_LENGTH = 90
+FRAGMENT_SPACE = 100
+SCATTER = 7_919
+BEHIND_FRAGMENT = 20
 
 
 def best_run(program, words, want=None):
@@ -126,7 +136,28 @@ def bench_dues(program):
         before = nanos
 
 
-BENCHES = {"frames": bench_frames, "hash": bench_hash, "rings": bench_rings, "budgets": bench_budgets, "dues": bench_dues}
+def bytes_over_held(fragments):
+    """How many positions the fragments and the segments over them cover."""
+    starts = [FRAGMENT_SPACE * k for k in range(fragments)]
+    for k in range(fragments, fragments + OVER_HELD):
+        starts.append(FRAGMENT_SPACE * (k * SCATTER % 2**32 % fragments + 1) + BEHIND_FRAGMENT)
+    return len({at for start in starts for at in range(start, start + FRAGMENT_LENGTH)})
+
+
+def bench_directions(program):
+    print_row(("segments", "fragments held", "seconds", "ns/segment"))
+    print_row(["--:"] * 4)
+    for segments in SEGMENTS:
+        nanos = measured(program, ("order", segments, LENGTH), f"taken {segments * LENGTH}")
+        print_row((segments, 0, f"{nanos / 1e9:.4f}", f"{nanos / segments:.0f}"))
+    for fragments in FRAGMENTS:
+        want = f"taken {bytes_over_held(fragments)}"
+        nanos = measured(program, ("held", fragments, OVER_HELD, FRAGMENT_LENGTH), want)
+        print_row((OVER_HELD, fragments, f"{nanos / 1e9:.4f}", f"{nanos / OVER_HELD:.0f}"))
+
+
+BENCHES = {"frames": bench_frames, "hash": bench_hash, "rings": bench_rings, "budgets": bench_budgets, "dues": bench_dues,
+           "directions": bench_directions}
 
 
 def main():

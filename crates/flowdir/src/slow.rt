@@ -195,10 +195,10 @@ fn wins(policy: Policy, old: usize, new: usize) -> bool {
     }
 }
 
-/// How many fresh bytes stand in a row from here on.
-fn run_len(classes: &[Class]) -> u32 {
+/// How many fresh bytes stand in a row from one on.
+fn run_len(classes: &[Class], from: usize) -> u32 {
     let mut len: u32 = 0;
-    for class in classes {
+    for class in classes.iter().skip(from) {
         if *class != Class::Fresh {
             return len;
         }
@@ -210,16 +210,14 @@ fn run_len(classes: &[Class]) -> u32 {
 /// Whether each byte is of a run that was granted. Behind the first refused run none is asked for.
 fn grants(alloc: Global, classes: &[Class], pool: &mut Pool) -> Result<Vec<bool>, Fail> {
     let mut grants = Vec::new(alloc);
-    let mut rest = classes;
     let mut before = Class::Late;
     let mut is_granted = true;
-    while let [class, behind @ ..] = rest {
+    for (at, class) in classes.iter().enumerate() {
         if *class == Class::Fresh && before != Class::Fresh && is_granted {
-            is_granted = pool.ask(run_len(rest)).is_some();
+            is_granted = pool.ask(run_len(classes, at)).is_some();
         }
         grants.push(*class == Class::Fresh && is_granted)?;
         before = *class;
-        rest = behind;
     }
     Ok(grants)
 }

@@ -52,6 +52,12 @@ impl From<prio_budget::Memory> for Fault {
     }
 }
 
+impl From<flowdir::Memory> for Fault {
+    fn from(_: flowdir::Memory) -> Self {
+        Fault::Memory
+    }
+}
+
 impl From<deadlines::Memory> for Fault {
     fn from(_: deadlines::Memory) -> Self {
         Fault::Memory

@@ -1,10 +1,12 @@
 //! The layers below the commands at work, for the scripts of bench/: `frames RECORDS LENGTH PIECE`, `hash BYTES`, `cores KEYS`,
-//! `ring ITEMS PLACES`, `word THREADS ASKS`, `locked THREADS ASKS` or `dues IDS`; `each` does a little of each.
+//! `ring ITEMS PLACES`, `word THREADS ASKS`, `locked THREADS ASKS`, `dues IDS`, `order SEGMENTS LENGTH` or
+//! `held FRAGMENTS SEGMENTS LENGTH`; `each` does a little of each.
 //! It prints what came of it, and where the last word is `timed` the nanoseconds that the work took.
-//! Stands on pcapfile, streamkey, evring, prio_budget and deadlines.
+//! Stands on pcapfile, streamkey, evring, prio_budget, deadlines and flowdir.
 #![tactic(auto)]
 
 mod budgets;
+mod dirs;
 mod dues;
 mod fault;
 mod frames;
@@ -122,6 +124,35 @@ fn bench_dues<R: Print + Clock + AllocGlobal>(rt: &R, ids: u32) -> Result<u128, 
     Ok(nanos)
 }
 
+/// So many segments of a direction, each behind the one before.
+fn bench_order<R: Print + Clock + AllocGlobal>(
+    rt: &R,
+    segments: u32,
+    len: usize,
+) -> Result<u128, Fault> {
+    let payload = hashes::bytes(rt.alloc(), len)?;
+    let start = Instant::now(rt)?;
+    let taken = dirs::in_order(rt.alloc(), segments, &payload)?;
+    let nanos = start.elapsed(rt)?.as_nanos();
+    println!(rt; "taken {taken}")?;
+    Ok(nanos)
+}
+
+/// So many segments of a direction over fragments that are held.
+fn bench_held<R: Print + Clock + AllocGlobal>(
+    rt: &R,
+    fragments: u32,
+    segments: u32,
+    len: usize,
+) -> Result<u128, Fault> {
+    let payload = hashes::bytes(rt.alloc(), len)?;
+    let start = Instant::now(rt)?;
+    let taken = dirs::over_held(rt.alloc(), fragments, segments, &payload)?;
+    let nanos = start.elapsed(rt)?.as_nanos();
+    println!(rt; "taken {taken}")?;
+    Ok(nanos)
+}
+
 /// Does a little of each. What it prints is always the same.
 fn bench_each<R: Print + Clock + AllocGlobal + Threads + Wait + Sync>(
     rt: &R,
@@ -132,7 +163,9 @@ fn bench_each<R: Print + Clock + AllocGlobal + Threads + Wait + Sync>(
     nanos = nanos.saturating_add(bench_ring(rt, 10_000, 16)?);
     nanos = nanos.saturating_add(bench_word(rt, 1, 10_000)?);
     nanos = nanos.saturating_add(bench_locked(rt, 4, 10_000)?);
-    Ok(nanos.saturating_add(bench_dues(rt, 1_000)?))
+    nanos = nanos.saturating_add(bench_dues(rt, 1_000)?);
+    nanos = nanos.saturating_add(bench_order(rt, 1_000, 100)?);
+    Ok(nanos.saturating_add(bench_held(rt, 100, 1_000, 90)?))
 }
 
 /// Does what the words ask for, of what works in one thread.
@@ -148,6 +181,17 @@ fn bench_alone<R: Print + Clock + AllocGlobal>(rt: &R, words: &[String]) -> Resu
     }
     if has_word(words, 0, "dues") {
         return bench_dues(rt, short_number(words, 1)?);
+    }
+    if has_word(words, 0, "order") {
+        return bench_order(rt, short_number(words, 1)?, number(words, 2)?);
+    }
+    if has_word(words, 0, "held") {
+        return bench_held(
+            rt,
+            short_number(words, 1)?,
+            short_number(words, 2)?,
+            number(words, 3)?,
+        );
     }
     Err(Fault::Words)
 }
