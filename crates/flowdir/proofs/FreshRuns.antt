@@ -1,11 +1,11 @@
 -- The runs that a segment brings.
 use Rattle.std.specs.Prelude.{◌≡◌, refl, ℕ, ◌+◌, ◌-◌, ◌≤◌, List, [], ◌∷◌, length, map, min, take, drop, ℤ}
 use Rattle.std.proofs.Common.{sym, ◌∙◌, ap, subst, arith}
-use Rattle.std.proofs.lemmas.List.{length-drop, length-take}
+use Rattle.std.proofs.lemmas.List.{length-drop, length-take, length-map}
 use Rattle.overpolicy.specs.declared.policy.Policy.{Policy}
 use Rattle.streamdefs.specs.Lists.{Each}
 use Rattle.streamdefs.specs.Ranges.{Range}
-use Rattle.reorder.specs.Frags.{Frag, Ascends, AreClear, free, overlaid}
+use Rattle.reorder.specs.Frags.{Frag, Ascends, AreClear, free, overlaid, overlaid_one}
 use Rattle.reorder.proofs.FreeRuns.{free_within, IsWithin}
 use Rattle.reorder.proofs.Spread.{free_clear}
 use Rattle.reorder.proofs.Overlay.{overlaid_ascends, overlaid_free}
@@ -13,7 +13,7 @@ use Rattle.flowdir.specs.Classes.{sum_of_runs}
 use Rattle.flowdir.specs.Asking.{Wait, WaitClear}
 use Rattle.flowdir.specs.Waits.{wait_in, bytes_waiting, WaitEnd, AreFresh}
 use Rattle.flowdir.proofs.Asked.{waits_clear}
-use Rattle.flowdir.proofs.RunSums.{free_le}
+use Rattle.flowdir.proofs.RunSums.{free_le, free_count}
 
 wait_length : (lo : ℕ) (bytes : List ℕ) (r : Range) → IsWithin lo (lo + length bytes) r → length (take r.len (drop (r.at - lo) bytes)) ≡ r.len
 wait_length lo bytes r w = length-take r.len (drop (r.at - lo) bytes) ∙ ap (min r.len) (length-drop (r.at - lo) bytes) ∙ omega (arith, w.0, w.2)
@@ -52,3 +52,10 @@ end_wider high more (x ∷ ws) h w = (omega (arith, w.0), w.1, end_wider high mo
 
 pub fresh_wider : {C : Type 0} (low low' high more : ℕ) (fs : List (Frag C)) (ws : List Wait) → AreFresh low high fs ws → low ≡ low' → high ≤ more → AreFresh low' more fs ws
 fresh_wider low low' high more fs ws f e h = record { clear = subst (λ n. WaitClear n fs ws) e f.clear; ends = end_wider high more ws h f.ends; few = f.few }
+
+-- There are no more runs than bytes, and what is covered stays as many parts.
+pub runs_few : {C : Type 0} (low : ℕ) (inner : List ℕ) (fs : List (Frag C)) (ws : List Wait) → ws ≡ map (wait_in low inner) (free low (low + length inner) fs) → length ws ≤ length inner
+runs_few low inner fs ws e = omega (arith, ap length e, length-map (free low (low + length inner) fs) (wait_in low inner), free_count low (low + length inner) fs)
+
+pub parts_same : {C : Type 0} (policy : Policy) (start : ℤ) (low : ℕ) (inner : List ℕ) (fs fs' : List (Frag C)) → fs' ≡ overlaid policy start low inner fs → length fs' ≡ length fs
+parts_same policy start low inner fs fs' e = ap length e ∙ length-map fs (overlaid_one policy start low inner)

@@ -1,6 +1,6 @@
 -- The positions of free ranges.
 use Rattle.std.specs.Prelude.{◌≡◌, refl, ℕ, suc, ◌+◌, ◌-◌, ◌<◌, ◌≤◌, ◌^◌, Bool, true, false, cond, nat_lt, List, [], ◌∷◌, ◌++◌, length, map, min, max, take, drop, ℤ}
-use Rattle.std.proofs.Common.{◌∙◌, ap, arith}
+use Rattle.std.proofs.Common.{◌∙◌, ap, arith, append-nil}
 use Rattle.std.proofs.lemmas.Bool.Decides.{nat_tests}
 use Rattle.std.proofs.lemmas.List.{length-drop, length-take}
 use Rattle.streamdefs.specs.Lists.{Each}
@@ -31,6 +31,17 @@ free_le from to [] = by (nat_lt from to)
     by true = omega arith
     by false = omega arith
 free_le from to (f ∷ fs) = omega (arith, between_few from (min f.at to) (free (max from (end_of f)) to fs), free_le (max from (end_of f)) to fs)
+
+between_count : (from m : ℕ) (rest : List Range) → length (between from m ++ rest) ≤ (m - from) + length rest
+between_count from m rest = by (nat_lt from m) refl
+  where
+    by : (b : Bool) → nat_lt from m ≡ b → length (cond b (record { at = from; len = m - from } ∷ []) [] ++ rest) ≤ (m - from) + length rest
+    by true e = grind (arith, nat_tests)
+    by false e = omega arith
+
+pub free_count : {C : Type 0} (from to : ℕ) (fs : List (Frag C)) → length (free from to fs) ≤ to - from
+free_count from to [] = omega (arith, between_count from to [], ap length (append-nil (between from to)))
+free_count from to (f ∷ fs) = omega (arith, between_count from (min f.at to) (free (max from (end_of f)) to fs), free_count (max from (end_of f)) to fs)
 
 pub free_few : {C : Type 0} (from n : ℕ) (runs : List Run) (fs : List (Frag C)) → map range_for runs ≡ free from (from + n) fs → n ≤ 262144 → sum_of_runs (map range_for runs) < 2 ^ 64
 free_few from n runs fs e h = omega (arith, ap sum_of_runs e, free_le from (from + n) fs)

@@ -9,3 +9,4 @@ pub mod Meeting
 pub mod Closing
 pub mod Kept
 pub mod Heading
+pub mod Left

@@ -19,6 +19,7 @@ ghost use Rattle.flowdir.specs.Waits.{waits_of};
 ghost use Rattle.flowdir.specs.Classes.{counts_taken, at_of};
 ghost use Rattle.flowdir.specs.Meeting.{Meets, IsFor};
 ghost use Rattle.flowdir.specs.declared.advance.Advance.TheVariants.{Stay};
+ghost use Rattle.flowdir.specs.Left.{count_of, grants_left, work_left, Adds, Lowers, due_at};
 ghost use Rattle.flowdir.specs.Kept.{Leaves, IsEarly, late_of, entered, due_way, is_due, first_at, due_cuts, cuts_for, copying, advanced, ended_on, hole_now, rule_for, way_for, working_for, bytes_next, with_charge, with_none, with_answer, HasRoom, Working, IsLive, IsCopying, IsRunning, IsShut, IsFewNext, GivesNext, GoesOn, AsksNext, StandsFor, Enters, HeadIs};
 
 use crate::advance::Advance;
@@ -90,6 +91,7 @@ impl<C: Charge> Dir<C> {
         ensures mode { result.mode ≡ mode }
         ensures asked { bytes_next result.work ≡ None }
         ensures last { result.last ≡ 0 }
+        ensures left { (grants_left result ≡ 0) × (work_left result ≡ 0) }
         ensures weight { (w : C → ℕ) → weight_of_all w result.lane result.frags ≡ 0 }
     {
         Dir {
@@ -165,6 +167,7 @@ impl<C: Charge> Dir<C> {
             → IsStep paid (StandsFor paid self.new) t (kind_of self.old.mode) d (Arrives (segment_of seg.entry.now cutoff) []) 0 pieces step) }
         ensures asked { IfOk result (λ step. bytes_next self.new.work ≡ asked_by step) }
         ensures some { IfOk result AsksSome }
+        ensures left { IfOk result (λ step. Adds (2 * length seg.entry.now.payload.now) (14 * length seg.entry.now.payload.now + 3) self.old self.new) }
         ensures mode { self.new.mode ≡ self.old.mode }
         ensures last { OnOk result (self.new.last ≡ seg.entry.now.number) }
         ensures weight { IfOk result (λ step. (w : C → ℕ) → weight_of_all w self.new.lane self.new.frags + weight_of_step w step ≡ weight_of_all w self.old.lane self.old.frags) }
@@ -193,6 +196,7 @@ impl<C: Charge> Dir<C> {
             → IsStep paid (StandsFor paid self.new) t (kind_of self.old.mode) d (with_one_look look deed) given pieces step) }
         ensures asked { IfOk result (λ step. bytes_next self.new.work ≡ asked_by step) }
         ensures some { IfOk result AsksSome }
+        ensures left { IfOk result (λ step. Lowers granted self.old self.new) }
         ensures mode { self.new.mode ≡ self.old.mode }
         ensures last { self.new.last ≡ self.old.last }
         ensures weight { IfOk result (λ step. (w : C → ℕ) → weight_of_all w self.new.lane self.new.frags + weight_of_step w step ≡ weight_of_all w self.old.lane self.old.frags + weight_of w granted) }
@@ -213,6 +217,7 @@ impl<C: Charge> Dir<C> {
             → IsStep paid (StandsFor paid self.new) t (kind_of self.old.mode) d deed (suc given) pieces step) }
         ensures asked { IfOk result (λ step. bytes_next self.new.work ≡ asked_by step) }
         ensures some { IfOk result AsksSome }
+        ensures left { IfOk result (λ step. Lowers {C = C} None self.old self.new) }
         ensures mode { self.new.mode ≡ self.old.mode }
         ensures last { self.new.last ≡ self.old.last }
         ensures weight { IfOk result (λ step. (w : C → ℕ) → weight_of_all w self.new.lane self.new.frags + weight_of_step w step ≡ weight_of_all w self.old.lane self.old.frags) }
@@ -233,6 +238,8 @@ impl<C: Charge> Dir<C> {
             → IsStep paid (StandsFor paid self.new) t (kind_of self.old.mode) d (Falls_due at []) 0 pieces step) }
         ensures asked { IfOk result (λ step. bytes_next self.new.work ≡ asked_by step) }
         ensures some { IfOk result AsksSome }
+        ensures left { IfOk result (λ step. Adds 0 3 self.old self.new) }
+        ensures due { IfOk result (λ step. due_at shape.now.hole shape.now.flush self.old ≡ Some at → Lowers {C = C} None self.old self.new) }
         ensures mode { self.new.mode ≡ self.old.mode }
         ensures last { self.new.last ≡ self.old.last }
         ensures weight { IfOk result (λ step. (w : C → ℕ) → weight_of_all w self.new.lane self.new.frags + weight_of_step w step ≡ weight_of_all w self.old.lane self.old.frags) }
@@ -254,6 +261,7 @@ impl<C: Charge> Dir<C> {
             → IsStep paid (StandsFor paid self.new) t (kind_of self.old.mode) d (Ends at) 0 pieces step) }
         ensures asked { IfOk result (λ step. bytes_next self.new.work ≡ asked_by step) }
         ensures some { IfOk result AsksSome }
+        ensures left { IfOk result (λ step. Adds 0 0 self.old self.new) }
         ensures mode { self.new.mode ≡ self.old.mode }
         ensures last { self.new.last ≡ self.old.last }
         ensures weight { IfOk result (λ step. (w : C → ℕ) → weight_of_all w self.new.lane self.new.frags + weight_of_step w step ≡ weight_of_all w self.old.lane self.old.frags) }
@@ -270,6 +278,7 @@ impl<C: Charge> Dir<C> {
     #[tactic(auto, using(crate::proofs::EntrySteps::rests_idle))]
     pub fn take_closed(&mut self) -> Option<Chunk<C>>
         ensures first { (paid : C → Owed) (d : Direction) (pieces : List Piece) → StandsFor paid self.old d Rests pieces → IsFirst paid (StandsFor paid self.new d Rests) pieces result }
+        ensures left { (grants_left self.new ≡ grants_left self.old) × (work_left self.new + count_of result ≡ work_left self.old) }
         ensures mode { self.new.mode ≡ self.old.mode }
         ensures asked { bytes_next self.new.work ≡ bytes_next self.old.work }
         ensures last { self.new.last ≡ self.old.last }
@@ -281,10 +290,11 @@ impl<C: Charge> Dir<C> {
         self.take_first()
     }
 
-    #[tactic(auto, using(crate::proofs::EntrySteps::takes_first, crate::proofs::StepWeights::taken_weight))]
+    #[tactic(auto, using(crate::proofs::EntrySteps::takes_first, crate::proofs::StepWeights::taken_weight, crate::proofs::Lefts::taken_left))]
     fn take_first(&mut self) -> Option<Chunk<C>>
         requires { self.old.work ≡ Working.Idle }
         ensures first { (paid : C → Owed) (d : Direction) (pieces : List Piece) → StandsFor paid self.old d Rests pieces → IsFirst paid (StandsFor paid self.new d Rests) pieces result }
+        ensures left { (grants_left self.new ≡ grants_left self.old) × (work_left self.new + count_of result ≡ work_left self.old) }
         ensures kept { (self.new.mode ≡ self.old.mode) × (self.new.last ≡ self.old.last) × (self.new.work ≡ self.old.work) }
         ensures weight { (w : C → ℕ) → weight_of_all w self.new.lane self.new.frags + weight_of_chunk w result ≡ weight_of_all w self.old.lane self.old.frags }
     {
@@ -296,6 +306,7 @@ impl<C: Charge> Dir<C> {
     pub fn drain(&mut self) -> Option<C>
         ensures weight { (w : C → ℕ) → weight_of_all w self.new.lane self.new.frags + weight_of w result ≡ weight_of_all w self.old.lane self.old.frags }
         ensures none { IsNone result → (w : C → ℕ) → weight_of_all w self.old.lane self.old.frags ≡ 0 }
+        ensures left { (grants_left self.new ≡ 0) × (work_left self.new ≡ 0) }
         ensures asked { bytes_next self.new.work ≡ None }
         ensures mode { self.new.mode ≡ self.old.mode }
         ensures last { self.new.last ≡ self.old.last }
@@ -311,7 +322,8 @@ impl<C: Charge> Dir<C> {
     #[tactic(auto, using(crate::proofs::Dues::dues_stand))]
     pub fn due(&self, shape: &Shape) -> Option<u64>
         requires timely { IsTimely shape.now }
-        ensures { (paid : C → Owed) (t : Terms) (d : Direction) (pieces : List Piece) → HasShape shape.now t → StandsFor paid self.now d Rests pieces → result ≡ least_of (dues_in t d) }
+        ensures at { result ≡ due_at shape.now.hole shape.now.flush self.now }
+        ensures stands { (paid : C → Owed) (t : Terms) (d : Direction) (pieces : List Piece) → HasShape shape.now t → StandsFor paid self.now d Rests pieces → result ≡ least_of (dues_in t d) }
     {
         earlier(
             self.hole_due(shape.hole),

@@ -20,6 +20,7 @@ ghost use Rattle.flowdir.specs.Waits.{waits_of};
 ghost use Rattle.flowdir.specs.Classes.{counts_taken, at_of};
 ghost use Rattle.flowdir.specs.Meeting.{Meets, IsFor};
 ghost use Rattle.flowdir.specs.declared.advance.Advance.TheVariants.{Stay};
+ghost use Rattle.flowdir.specs.Left.{Lowers};
 ghost use Rattle.flowdir.specs.Kept.{Leaves, IsEarly, late_of, entered, due_way, is_due, first_at, due_cuts, cuts_for, copying, advanced, ended_on, hole_now, rule_for, way_for, working_for, bytes_next, with_charge, with_none, with_answer, HasRoom, Working, IsLive, IsCopying, IsRunning, IsShut, IsFewNext, GivesNext, GoesOn, AsksNext, StandsFor, Enters, HeadIs};
 
 use crate::advance::Advance;
@@ -123,7 +124,9 @@ impl<C: Charge> Dir<C> {
     ) -> Result<Step<C>, Memory>
         requires running { IsRunning self.old.work }
         requires granted { IfSome granted (λ charge. bytes_next self.old.work ≡ Some (C.amount charge)) }
+        requires asked { IsSome (bytes_next self.old.work) }
         ensures running { IsRunning self.old.work }
+        ensures left { IfOk result (λ step. Lowers granted self.old self.new) }
         ensures asks { IfOk result (λ step. AsksNext (cuts_for shape.now.chunk shape.now.overlap) shape.now.reorder (with_answer granted self.old) self.new step) }
         ensures leaves { IfOk result (λ step. Leaves step self.new.work) }
         ensures weight { IfOk result (λ step. (w : C → ℕ) → weight_of_all w self.new.lane self.new.frags + weight_of_step w step ≡ weight_of_all w self.old.lane self.old.frags + weight_of w granted) }
@@ -151,12 +154,13 @@ impl<C: Charge> Dir<C> {
     }
 
     /// The ask for a copy is answered.
-    #[tactic(auto, using(crate::proofs::Leaving::gives_leaves, crate::proofs::StepWeights::gives_weight))]
+    #[tactic(auto, using(crate::proofs::Leaving::gives_leaves, crate::proofs::StepWeights::gives_weight, crate::proofs::Lefts::copy_lowers))]
     fn answer_copy(&mut self, granted: Option<C>) -> Step<C>
         requires copying { IsCopying self.old.work }
         requires granted { IfSome granted (λ charge. bytes_next self.old.work ≡ Some (C.amount charge)) }
         ensures gives { GivesNext (with_answer granted self.old) self.new result }
         ensures copying { IsCopying self.old.work }
+        ensures left { Lowers granted self.old self.new }
         ensures leaves { Leaves result self.new.work }
         ensures weight { (w : C → ℕ) → weight_of_all w self.new.lane self.new.frags + weight_of_step w result ≡ weight_of_all w self.old.lane self.old.frags + weight_of w granted }
         ensures same { (self.new.mode ≡ self.old.mode) × (self.new.last ≡ self.old.last) }
@@ -178,6 +182,7 @@ impl<C: Charge> Dir<C> {
             → HasShape shape.now t → IsPaidBy C.amount paid → StandsFor paid self.old d (Works t deed given) pieces
             → next_by t (kind_of self.old.mode) d deed given ≡ Asks request → IsLookOf paid granted look
             → IsStep paid (StandsFor paid self.new) t (kind_of self.old.mode) d (with_one_look look deed) given pieces step) }
+        ensures left { IfOk result (λ step. Lowers granted self.old self.new) }
         ensures leaves { IfOk result (λ step. Leaves step self.new.work) }
         ensures weight { IfOk result (λ step. (w : C → ℕ) → weight_of_all w self.new.lane self.new.frags + weight_of_step w step ≡ weight_of_all w self.old.lane self.old.frags + weight_of w granted) }
         ensures err { OnErr result ((w : C → ℕ) → weight_of_all w self.new.lane self.new.frags ≡ weight_of_all w self.old.lane self.old.frags + weight_of w granted) }

@@ -20,6 +20,7 @@ ghost use Rattle.flowdir.specs.Waits.{waits_of};
 ghost use Rattle.flowdir.specs.Classes.{counts_taken, at_of};
 ghost use Rattle.flowdir.specs.Meeting.{Meets, IsFor};
 ghost use Rattle.flowdir.specs.declared.advance.Advance.TheVariants.{Stay};
+ghost use Rattle.flowdir.specs.Left.{Adds, Lowers};
 ghost use Rattle.flowdir.specs.Kept.{Leaves, IsEarly, late_of, entered, due_way, is_due, first_at, due_cuts, cuts_for, copying, advanced, ended_on, hole_now, rule_for, way_for, working_for, bytes_next, with_charge, with_none, with_answer, HasRoom, Working, IsLive, IsCopying, IsRunning, IsShut, IsFewNext, GivesNext, GoesOn, AsksNext, StandsFor, Enters, HeadIs};
 
 use crate::advance::Advance;
@@ -147,6 +148,7 @@ impl<C: Charge> Dir<C> {
         requires soon { at ≤ 2 ^ 62 }
         ensures step { IfOk result (λ step. (paid : C → Owed) (t : Terms) (d : Direction) (pieces : List Piece) → StandsFor paid self.old d Rests pieces
             → IsStep paid (StandsFor paid self.new) t (kind_of self.old.mode) d (Ends at) 0 pieces step) }
+        ensures left { IfOk result (λ step. Adds 0 0 self.old self.new) }
         ensures leaves { IfOk result (λ step. Leaves step self.new.work) }
         ensures weight { IfOk result (λ step. (w : C → ℕ) → weight_of_all w self.new.lane self.new.frags + weight_of_step w step ≡ weight_of_all w self.old.lane self.old.frags) }
         ensures err { OnErr result ((w : C → ℕ) → weight_of_all w self.new.lane self.new.frags ≡ weight_of_all w self.old.lane self.old.frags) }
@@ -158,12 +160,13 @@ impl<C: Charge> Dir<C> {
     }
 
     /// A charge was given back.
-    #[tactic(auto, using(crate::proofs::EntrySteps::freed_step, crate::proofs::Leaving::gives_leaves, crate::proofs::StepWeights::gives_weight))]
+    #[tactic(auto, using(crate::proofs::EntrySteps::freed_step, crate::proofs::Leaving::gives_leaves, crate::proofs::StepWeights::gives_weight, crate::proofs::Lefts::free_lowers))]
     pub(crate) fn give_on(&mut self) -> Step<C>
         requires { self.old.work ≡ Working.Giving }
         ensures step { (paid : C → Owed) (t : Terms) (d : Direction) (deed : Deed) (given : ℕ) (pieces : List Piece)
             → StandsFor paid self.old d (Works t deed given) pieces
             → IsStep paid (StandsFor paid self.new) t (kind_of self.old.mode) d deed (suc given) pieces result }
+        ensures left { Lowers {C = C} None self.old self.new }
         ensures leaves { Leaves result self.new.work }
         ensures weight { (w : C → ℕ) → weight_of_all w self.new.lane self.new.frags + weight_of_step w result ≡ weight_of_all w self.old.lane self.old.frags }
         ensures same { (self.new.mode ≡ self.old.mode) × (self.new.last ≡ self.old.last) }

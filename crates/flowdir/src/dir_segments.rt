@@ -20,6 +20,7 @@ ghost use Rattle.flowdir.specs.Waits.{waits_of};
 ghost use Rattle.flowdir.specs.Classes.{counts_taken, at_of};
 ghost use Rattle.flowdir.specs.Meeting.{Meets, IsFor};
 ghost use Rattle.flowdir.specs.declared.advance.Advance.TheVariants.{Stay};
+ghost use Rattle.flowdir.specs.Left.{Adds};
 ghost use Rattle.flowdir.specs.Kept.{Leaves, IsEarly, late_of, entered, due_way, is_due, first_at, due_cuts, cuts_for, copying, advanced, ended_on, hole_now, rule_for, way_for, working_for, bytes_next, with_charge, with_none, with_answer, HasRoom, Working, IsLive, IsCopying, IsRunning, IsShut, IsFewNext, GivesNext, GoesOn, AsksNext, StandsFor, Enters, HeadIs};
 
 use crate::advance::Advance;
@@ -78,6 +79,7 @@ impl<C: Charge> Dir<C> {
             → IsFor s payload.now cutoff → start ≡ start_of (kind_of self.old.mode) d s → HeadIs self.old (kind_of self.old.mode) d s → d.hole ≡ self.old.hole
             → Meets paid self.old.lane self.old.frags d → LaneStands paid self.old.lane d.view.flow d.pending pieces [] → Enters paid self.new t d s pieces) }
         ensures same { (self.new.mode ≡ self.old.mode) × (self.new.last ≡ self.old.last) }
+        ensures left { OnOk result (Adds (2 * length payload.now) (14 * length payload.now) self.old self.new) }
         ensures running { OnOk result (IsRunning self.new.work) }
         ensures weight { (w : C → ℕ) → weight_of_all w self.new.lane self.new.frags ≡ weight_of_all w self.old.lane self.old.frags }
     {
@@ -121,6 +123,7 @@ impl<C: Charge> Dir<C> {
         requires few { length seg.now.payload.now ≤ 262144 }
         ensures step { IfOk result (λ step. (paid : C → Owed) (t : Terms) (d : Direction) (pieces : List Piece) → HasShape shape.now t → StandsFor paid self.old d Rests pieces
             → IsStep paid (StandsFor paid self.new) t (kind_of self.old.mode) d (Arrives (segment_of seg.entry.now cutoff) []) 0 pieces step) }
+        ensures left { IfOk result (λ step. Adds (2 * length seg.entry.now.payload.now) (14 * length seg.entry.now.payload.now + 3) self.old self.new) }
         ensures leaves { IfOk result (λ step. Leaves step self.new.work) }
         ensures weight { IfOk result (λ step. (w : C → ℕ) → weight_of_all w self.new.lane self.new.frags + weight_of_step w step ≡ weight_of_all w self.old.lane self.old.frags) }
         ensures err { OnErr result ((w : C → ℕ) → weight_of_all w self.new.lane self.new.frags ≡ weight_of_all w self.old.lane self.old.frags) }
@@ -149,6 +152,7 @@ impl<C: Charge> Dir<C> {
         requires few { length seg.now.payload.now ≤ 262144 }
         ensures step { IfOk result (λ step. (paid : C → Owed) (t : Terms) (d : Direction) (pieces : List Piece) → HasShape shape.now t → StandsFor paid self.old d Rests pieces
             → IsStep paid (StandsFor paid self.new) t (kind_of self.old.mode) d (Arrives (segment_of seg.entry.now cutoff) []) 0 pieces step) }
+        ensures left { IfOk result (λ step. Adds (2 * length seg.entry.now.payload.now) (14 * length seg.entry.now.payload.now + 3) self.old self.new) }
         ensures leaves { IfOk result (λ step. Leaves step self.new.work) }
         ensures weight { IfOk result (λ step. (w : C → ℕ) → weight_of_all w self.new.lane self.new.frags + weight_of_step w step ≡ weight_of_all w self.old.lane self.old.frags) }
         ensures err { OnErr result ((w : C → ℕ) → weight_of_all w self.new.lane self.new.frags ≡ weight_of_all w self.old.lane self.old.frags) }
@@ -177,6 +181,7 @@ impl<C: Charge> Dir<C> {
         requires few { length seg.now.payload.now ≤ 262144 }
         ensures step { IfOk result (λ step. (cutoff : Option ℕ) (paid : C → Owed) (t : Terms) (d : Direction) (pieces : List Piece) → HasShape shape.now t → StandsFor paid self.old d Rests pieces
             → IsStep paid (StandsFor paid self.new) t (kind_of self.old.mode) d (Arrives (segment_of seg.entry.now cutoff) []) 0 pieces step) }
+        ensures left { IfOk result (λ step. Adds (2 * length seg.entry.now.payload.now) (14 * length seg.entry.now.payload.now + 3) self.old self.new) }
         ensures leaves { IfOk result (λ step. Leaves step self.new.work) }
         ensures weight { IfOk result (λ step. (w : C → ℕ) → weight_of_all w self.new.lane self.new.frags + weight_of_step w step ≡ weight_of_all w self.old.lane self.old.frags) }
         ensures err { OnErr result ((w : C → ℕ) → weight_of_all w self.new.lane self.new.frags ≡ weight_of_all w self.old.lane self.old.frags) }

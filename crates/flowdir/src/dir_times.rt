@@ -20,6 +20,7 @@ ghost use Rattle.flowdir.specs.Waits.{waits_of};
 ghost use Rattle.flowdir.specs.Classes.{counts_taken, at_of};
 ghost use Rattle.flowdir.specs.Meeting.{Meets, IsFor};
 ghost use Rattle.flowdir.specs.declared.advance.Advance.TheVariants.{Stay};
+ghost use Rattle.flowdir.specs.Left.{Adds, Lowers, due_at};
 ghost use Rattle.flowdir.specs.Kept.{Leaves, IsEarly, late_of, entered, due_way, is_due, first_at, due_cuts, cuts_for, copying, advanced, ended_on, hole_now, rule_for, way_for, working_for, bytes_next, with_charge, with_none, with_answer, HasRoom, Working, IsLive, IsCopying, IsRunning, IsShut, IsFewNext, GivesNext, GoesOn, AsksNext, StandsFor, Enters, HeadIs};
 
 use crate::advance::Advance;
@@ -58,6 +59,8 @@ impl<C: Charge> Dir<C> {
         requires soon { at ≤ 2 ^ 62 }
         ensures step { IfOk result (λ step. (paid : C → Owed) (t : Terms) (d : Direction) (pieces : List Piece) → HasShape shape.now t → StandsFor paid self.old d Rests pieces
             → IsStep paid (StandsFor paid self.new) t (kind_of self.old.mode) d (Falls_due at []) 0 pieces step) }
+        ensures left { IfOk result (λ step. Adds 0 3 self.old self.new) }
+        ensures due { IfOk result (λ step. due_at shape.now.hole shape.now.flush self.old ≡ Some at → Lowers {C = C} None self.old self.new) }
         ensures leaves { IfOk result (λ step. Leaves step self.new.work) }
         ensures weight { IfOk result (λ step. (w : C → ℕ) → weight_of_all w self.new.lane self.new.frags + weight_of_step w step ≡ weight_of_all w self.old.lane self.old.frags) }
         ensures err { OnErr result ((w : C → ℕ) → weight_of_all w self.new.lane self.new.frags ≡ weight_of_all w self.old.lane self.old.frags) }

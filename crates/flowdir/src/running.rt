@@ -68,6 +68,8 @@ pub(crate) fn start_runs<C: Charge>(
     ensures asking { IfOk result (λ r. (paid : C → Owed) (t : Terms) (kind : Kind) (d : Direction) (s : Segment) → t.policy ≡ policy → s.live ≡ true → IsFor s payload.now cutoff → start ≡ start_of kind d s
         → Meets paid passed.now.lane store.old.frags d → Asking paid t kind d s [] start store.new.frags (waits_of r.waits.items) (classes_of r.counts)) }
     ensures fresh { IfOk result (λ r. AreFresh (max passed.now.lane.front (at_of start)) (max passed.now.lane.front (at_of start) + 262144) store.new.frags (waits_of r.waits.items)) }
+    ensures runs { IfOk result (λ r. length (waits_of r.waits.items) ≤ length payload.now) }
+    ensures parts { OnOk result (length store.new.frags ≡ length store.old.frags) }
     ensures taken { IfOk result (λ r. r.counts.taken ≡ 0) }
     ensures ascends { Ascends passed.now.lane.front store.new.frags }
     ensures ends { (most : ℕ) → EndBy most store.old.frags → EndBy most store.new.frags }

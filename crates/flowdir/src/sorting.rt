@@ -38,7 +38,7 @@ pub(crate) struct Sorted {
 }
 
 /// The runs of a segment's part between the front and the cutoff, and what it covers settled.
-#[tactic(auto, using(crate::proofs::RunSums::free_few, crate::proofs::FreshRuns::fresh))]
+#[tactic(auto, using(crate::proofs::RunSums::free_few, crate::proofs::FreshRuns::fresh, crate::proofs::FreshRuns::runs_few, crate::proofs::FreshRuns::parts_same))]
 pub(crate) fn sort_inner<C: Charge>(
     alloc: Global,
     store: &mut Store<C>,
@@ -53,6 +53,8 @@ pub(crate) fn sort_inner<C: Charge>(
     ensures fresh { IfOk result (λ sorted. (front : ℕ) → Ascends front store.old.frags → AreFresh low (low + length inner.now) store.new.frags (waits_of sorted.waits.items)) }
     ensures wanted { IfOk result (λ sorted. sorted.wanted ≡ sum_of_runs (free low (low + length inner.now) store.old.frags)) }
     ensures frags { OnOk result (store.new.frags ≡ overlaid policy start low inner.now store.old.frags) }
+    ensures runs { IfOk result (λ sorted. length (waits_of sorted.waits.items) ≤ length inner.now) }
+    ensures parts { OnOk result (length store.new.frags ≡ length store.old.frags) }
     ensures ascends { (front : ℕ) → Ascends front store.old.frags → Ascends front store.new.frags }
     ensures ends { (most : ℕ) → EndBy most store.old.frags → EndBy most store.new.frags }
     ensures weight { (w : C → ℕ) → weight_in w store.new.frags ≡ weight_in w store.old.frags }

@@ -8,6 +8,9 @@ use Rattle.flowdir.proofs.Answering.{if_ok}
 use Rattle.flowdir.proofs.Reach.{front_fits, sent_fits, sent_next, number_rises}
 use Rattle.flowdir.proofs.Sound.{kept_idle}
 use Rattle.flowdir.proofs.EntrySteps.{dead_step}
+use Rattle.flowdir.specs.Counting.{classes_of}
+use Rattle.flowdir.specs.Left.{grants_left, work_left}
+use Rattle.flowdir.proofs.Lefts.{dead_adds}
 use Rattle.flowdir.proofs.dir.Dir.come_dead.Goals as goal
 
 pub aim-aim-requires-clause-near : goal.aim-aim-requires-clause-near
@@ -34,3 +37,9 @@ returns-clause-step g c =
     (subst (λ k. Ascends k.lane.front k.frags) c.self.view_is
     (kept_idle c.self.inside.last c.self.inside.store.room c.self.inside.passed.lane c.self.inside.store.frags (working_for c.self.inside.work) (ap (λ k. k.work) c.self.view_is ∙ c.requires.idle) c.self.invariant.0).ascends)
     (subst (λ k. GoesOn (advanced Stay (cuts_for c.args.shape.now.chunk c.args.shape.now.overlap) k) c.pass_by.new.self step) (λ i. entered c.args.seg.now.now (c.late_counts-late.ensures i) (c.note.ensures i)) n)) c.pass_by.ensures.goes_on
+
+pub returns-clause-left : goal.returns-clause-left
+returns-clause-left g c =
+    if_ok c.pass_by.result _ _ (λ step n.
+    dead_adds (length c.args.seg.now.payload.now) (cuts_for c.args.shape.now.chunk c.args.shape.now.overlap) c.args.seg.now.now (classes_of c.late_counts-late.result) c.args.self.now c.note.new.self c.pass_by.new.self step
+    (ap grants_left c.note.ensures, ap work_left c.note.ensures) (ap (λ k. k.work) c.note.ensures ∙ c.requires.idle) n) c.pass_by.ensures.goes_on

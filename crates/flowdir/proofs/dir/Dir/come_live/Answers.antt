@@ -8,11 +8,13 @@ use Rattle.flowdir.specs.Meeting.{Meets}
 use Rattle.flowdir.specs.Classes.{at_of}
 use Rattle.flowdir.specs.Boundary.{segment_of, kind_of, number_of}
 use Rattle.flowdir.specs.Heading.{Tells, AimsAt}
-use Rattle.flowdir.specs.Kept.{HeadIs, working_for}
+use Rattle.flowdir.specs.Kept.{HeadIs, working_for, cuts_for}
 use Rattle.flowdir.proofs.Answering.{if_ok}
 use Rattle.flowdir.proofs.Reach.{front_fits, sent_fits, sent_next, number_rises, ends_near}
 use Rattle.flowdir.proofs.Sound.{kept_idle}
 use Rattle.flowdir.proofs.EntrySteps.{begin_step}
+use Rattle.flowdir.specs.Left.{grants_left, work_left}
+use Rattle.flowdir.proofs.Lefts.{live_adds}
 use Rattle.flowdir.proofs.dir.Dir.come_live.Goals as goal
 
 pub aim-aim-requires-clause-near : goal.aim-aim-requires-clause-near
@@ -54,3 +56,9 @@ returns-clause-step g c =
     (subst (λ k. d.hole ≡ k.hole) (sym c.note.ensures) h) (subst (λ k. Meets paid k.lane k.frags d) (sym c.note.ensures) m)
     (subst (λ k. LaneStands paid k.lane d.view.flow d.pending pieces []) (sym c.note.ensures) ls))
     (c.enter.ensures.same.0 ∙ ap (λ k. k.mode) c.note.ensures) n) c.ask_next.ensures.asks
+
+pub returns-clause-left : goal.returns-clause-left
+returns-clause-left g c =
+    if_ok c.ask_next.result _ _ (λ step n.
+    live_adds (length c.args.seg.now.payload.now) (cuts_for c.args.shape.now.chunk c.args.shape.now.overlap) c.args.shape.now.reorder c.args.self.now c.note.new.self c.enter.new.self c.ask_next.new.self step
+    (ap grants_left c.note.ensures, ap work_left c.note.ensures) c.in_ok-enter.ensures.left c.in_ok-enter.ensures.running n) c.ask_next.ensures.asks

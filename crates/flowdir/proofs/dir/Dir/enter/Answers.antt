@@ -1,4 +1,4 @@
-use Rattle.std.proofs.Common.{◌≡◌, sym, ◌∙◌, ap, subst, ◌+◌, ◌≤◌, ◌^◌, ◌*◌, to_z, of_z, w64, ℤ, arith, []}
+use Rattle.std.proofs.Common.{◌≡◌, sym, ◌∙◌, ap, subst, ◌+◌, ◌≤◌, ◌^◌, ◌*◌, length, refl, to_z, of_z, w64, ℤ, arith, []}
 use Rattle.std.proofs.Math.Facts.{to_z-of_z}
 use Rattle.std.specs.Prelude.{max}
 use Rattle.reorder.specs.Frags.{EndBy, Ascends}
@@ -14,6 +14,7 @@ use Rattle.flowdir.specs.Classes.{at_of}
 use Rattle.flowdir.specs.Waits.{waits_of, AreFresh}
 use Rattle.flowdir.specs.Kept.{working_for, HeadIs}
 use Rattle.flowdir.proofs.Sound.{kept_entered, kept_idle}
+use Rattle.flowdir.proofs.Lefts.{enter_adds}
 use Rattle.flowdir.proofs.dir.Dir.enter.Goals as goal
 
 pub returns-in_err-running-clause-weight : goal.returns-in_err-running-clause-weight
@@ -64,3 +65,8 @@ returns-clause-runs g c = λ paid t d s pieces p l mo f st hd h m ls.
     (subst (λ k. HeadIs k (kind_of k.mode) d s) back hd) (subst (λ k. d.hole ≡ k.hole) back h) meets (subst (λ k. LaneStands paid k.lane d.view.flow d.pending pieces []) back ls)
     (kept_idle c.self.inside.last c.self.inside.store.room c.self.inside.passed.lane c.self.inside.store.frags (working_for c.self.inside.work) (ap (λ k. k.work) c.self.view_is ∙ c.requires.idle) c.self.invariant.0).ascends
     c.least.ensures (sym mo) c.front-front.ensures.front c.is_none-bare.ensures
+
+pub returns-clause-left : goal.returns-clause-left
+returns-clause-left g c =
+    enter_adds (length c.args.payload.now) (to_z w64 (of_z w64 c.args.start)) (waits_of c.in_ok-running.running.waits.items) c.args.self.now _ c.requires.idle refl c.in_ok-running.ensures.runs
+    (ap length c.in_ok-reserve_for.ensures.same ∙ c.in_ok-running.ensures.parts ∙ ap (λ k. length k.frags) c.self.view_is) (ap (λ k. k.lane) c.self.view_is) (ap (λ k. k.hole) c.self.view_is)
