@@ -92,6 +92,7 @@ fn come(
 
 /// So many segments of some bytes, each behind the one before: how many bytes were taken.
 pub fn in_order(alloc: Global, segments: u32, payload: &[u8]) -> Result<u64, Fault> {
+    let len = u32::try_from(payload.len()).map_err(|_| Fault::Words)?;
     let mut dir = Dir::new(alloc, DirMode::Strict);
     let mut taken: u64 = 0;
     let mut seq: u32 = 0;
@@ -102,7 +103,7 @@ pub fn in_order(alloc: Global, segments: u32, payload: &[u8]) -> Result<u64, Fau
         }
         number += 1;
         taken = taken.saturating_add(come(alloc, &mut dir, number, seq, payload)?);
-        seq = seq.wrapping_add(payload.len() as u32);
+        seq = seq.wrapping_add(len);
         let _ = dir.take_closed();
     }
     Ok(taken)
