@@ -6,6 +6,7 @@ use crate::{WorkFault, WorkTurn, Worker};
 use chunkpart::Chunk;
 use evring::{Advice, Answer, Event, Kept, Reason, Way};
 use handler::{ChunkView, Handler};
+use histbook::WorkList;
 use prio_budget::{Answered, Charge, Free, Marks, Part, PartBytes, PlainBudget, PlainCharge};
 use scap_world::{FailCall, MemShelf, MemSink, Shelf};
 use std::alloc::Global;
@@ -68,7 +69,8 @@ struct Piece {
 }
 
 /// A conversation of datagrams from 10.0.0.1 to 10.0.0.2 with the chunks that its worker is told of; below which position the
-/// handler keeps them; the lines; and of each answer a word ('k': keep, '.': no advice, '!': drain mode) and its releases.
+/// handler keeps them; the lines; of each answer a word ('k': keep, '.': no advice, '!': drain mode) and its releases;
+/// and how many events are served.
 #[derive(Clone, Copy)]
 struct Row {
     ports: (u16, u16),
@@ -76,6 +78,7 @@ struct Row {
     position: u64,
     lines: &'static str,
     answers: &'static str,
+    served: u64,
 }
 
 const ONE_DATAGRAM: Row = Row {
@@ -91,6 +94,7 @@ data 1 > 0 0 0 0 6869
 end 1 finish
 ",
     answers: ".\n. ~2@1\n.\n",
+    served: 3,
 };
 
 const OVERLAP: Row = Row {
@@ -114,6 +118,30 @@ data 1 > 6 0 2 0 6566676869
 end 1 finish
 ",
     answers: ".\n. ~3@4 ~3@5\n. ~2@6 ~3@7\n.\n",
+    served: 4,
+};
+
+/// As before, where the budget refused the copy.
+const NO_COPY: Row = Row {
+    pieces: &[
+        Piece {
+            start: 0,
+            copy: "",
+            fresh: ["abc", "def"],
+        },
+        Piece {
+            start: 6,
+            copy: "",
+            fresh: ["ghi", ""],
+        },
+    ],
+    lines: "new 1 udp 10.0.0.1 40000 10.0.0.2 80
+data 1 > 0 0 0 0 616263646566
+data 1 > 6 0 0 0 676869
+end 1 finish
+",
+    answers: ".\n. ~3@3 ~3@4\n. ~3@5\n.\n",
+    ..OVERLAP
 };
 
 const KEEP: Row = Row {
@@ -137,6 +165,7 @@ data 1 > 4 0 0 4 65666768
 end 1 finish
 ",
     answers: ".\nk\n. ~4@2 ~4@3\n.\n",
+    served: 4,
 };
 
 /// A part of these bytes, with a charge of the budget.
@@ -329,7 +358,7 @@ fn serve(
 {
     let back = mem::replace(&mut heard.kept, Kept::none(heard.alloc));
     worker.load(0, with_kept(event, back));
-    for _ in 0..10 {
+    'turns: for _ in 0..10 {
         if turn(worker, budget, heard)? {
             return Ok(());
         }
@@ -342,6 +371,7 @@ fn serve(
 struct Outcome {
     lines: Vec<u8>,
     answers: Vec<u8>,
+    served: WorkList,
     faults: u32,
     asked: u32,
     used: u32,
@@ -368,15 +398,16 @@ fn outcome_of(alloc: Global, row: Row, most: usize, nth: u32) -> Result<Outcome,
         kept: Kept::none(alloc),
         faults: 0,
     };
-    for event in events_of(alloc, &mut budget, row)? {
+    'events: for event in events_of(alloc, &mut budget, row)? {
         serve(&mut worker, &mut budget, &mut heard, event)?;
     }
-    let (sink, _) = worker.into_parts();
+    let (sink, served) = worker.into_parts();
     shelf.finish("lines", sink)?;
     let lines = shelf.file("lines").ok_or("no lines")?.to_vec(alloc)?;
     Ok(Outcome {
         lines,
         answers: heard.answers,
+        served,
         faults: heard.faults,
         asked: asked.get(),
         used: budget.used(),
@@ -385,10 +416,11 @@ fn outcome_of(alloc: Global, row: Row, most: usize, nth: u32) -> Result<Outcome,
 
 #[test]
 fn events_are_served(rt: HostRuntime) -> Result<(), Fail> {
-    for row in [ONE_DATAGRAM, OVERLAP, KEEP] {
+    for row in [ONE_DATAGRAM, OVERLAP, NO_COPY, KEEP] {
         let outcome = outcome_of(rt.alloc(), row, usize::MAX, 9)?;
         assert_eq!(rt; outcome.lines.as_slice(), row.lines.as_bytes());
         assert_eq!(rt; outcome.answers.as_slice(), row.answers.as_bytes());
+        assert_eq!(rt; outcome.served.runs(), [(0, row.served)].as_slice());
         assert_eq!(rt; (outcome.faults, outcome.used), (0, 0));
     }
     Ok(())
@@ -432,5 +464,29 @@ fn each_write_is_refused(rt: HostRuntime) -> Result<(), Fail> {
             "write {nth} of {most}"
         );
     }
+    Ok(())
+}
+
+#[test]
+fn cores_are_looked_at_round(rt: HostRuntime) -> Result<(), Fail> {
+    let asked = Cell::new(0);
+    let mut shelf = MemShelf::new(rt.alloc());
+    let sink = shelf.create("lines")?;
+    let handler = KeepsBefore {
+        position: 0,
+        asked: &asked,
+    };
+    let mut worker: Tried = Worker::new(rt.alloc(), handler, sink, 1, 2, 6);
+    let least_first = [worker.wants(0), worker.wants(1), worker.wants(2)];
+    assert_eq!(rt; least_first, [1, 3, 5]);
+    worker.load(
+        3,
+        Event::Ended {
+            conv: 1,
+            reason: Reason::Finish,
+        },
+    );
+    let next_first = [worker.wants(0), worker.wants(1), worker.wants(2)];
+    assert_eq!(rt; next_first, [5, 1, 3]);
     Ok(())
 }
