@@ -7,3 +7,9 @@ impl From<cutclass::Memory> for Memory {
         Memory
     }
 }
+
+impl From<flowdir::Memory> for Memory {
+    fn from(_: flowdir::Memory) -> Self {
+        Memory
+    }
+}

@@ -1,0 +1,11 @@
+pub mod Directions
+pub mod Seen
+pub mod Weights
+pub mod Talk
+pub mod Halves
+pub mod Going
+pub mod Standing
+pub mod Endings
+pub mod Advised
+pub mod Timings
+pub mod Stands
