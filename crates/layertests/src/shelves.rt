@@ -271,12 +271,21 @@ fn reads_of_an_earlier_open_do_not_count(rt: HostRuntime) -> Result<(), Fail> {
     let mut shelf = MemShelf::new(rt.alloc());
     shelf.add("in", b"abc")?;
     let mut source = shelf.open_read("in")?;
-    shelf.fail("in", FailCall::Read, 1)?;
-    assert_eq!(rt; gives(&mut source, &[(4, b"abc")]), Ok(true));
+    let told = shelf.fail("in", FailCall::Read, 1);
+    let given = gives(&mut source, &[(4, b"abc")]);
     shelf.end_read("in", source);
+    assert_eq!(rt; (told, given), (Ok(()), Ok(true)));
     assert!(rt; fits_any(&mut shelf, &Step::NoRead("in")));
     assert!(rt; fits_any(&mut shelf, &Step::Read("in", &[(4, b"abc")])));
     Ok(())
+}
+
+/// Reads of two sources of one file, in turn.
+fn gives_in_turn<S: Source>(first: &mut S, second: &mut S) -> Result<bool, WorldFault> {
+    let front = gives(first, &[(2, b"ab")])?;
+    let whole = gives(second, &[(4, b"abc")])?;
+    let rest = gives(first, &[(4, b"c")])?;
+    Ok(front && whole && rest)
 }
 
 #[test]
@@ -287,14 +296,15 @@ fn several_may_be_out_at_once(rt: HostRuntime) -> Result<(), Fail> {
     let mut second = shelf.open_read("in")?;
     let mut out = shelf.create("out")?;
     let other = shelf.create("other")?;
-    assert_eq!(rt; gives(&mut first, &[(2, b"ab")]), Ok(true));
-    assert_eq!(rt; gives(&mut second, &[(4, b"abc")]), Ok(true));
-    assert_eq!(rt; gives(&mut first, &[(4, b"c")]), Ok(true));
-    assert_eq!(rt; takes(&mut out, &[(b"xyz", 3)]), Ok(true));
+    let given = gives_in_turn(&mut first, &mut second);
+    let taken = takes(&mut out, &[(b"xyz", 3)]);
     shelf.end_read("in", first);
     shelf.end_read("in", second);
-    assert_eq!(rt; shelf.finish("other", other), Ok(()));
-    assert_eq!(rt; shelf.finish("out", out), Ok(()));
+    let finished = (shelf.finish("other", other), shelf.finish("out", out));
+    assert_eq!(rt;
+        (given, taken, finished),
+        (Ok(true), Ok(true), (Ok(()), Ok(())))
+    );
     assert!(rt; fits(&mut shelf, &Step::File("out", Some(b"xyz"))));
     assert!(rt; fits(&mut shelf, &Step::File("other", Some(b""))));
     Ok(())
