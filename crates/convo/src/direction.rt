@@ -116,11 +116,7 @@ pub(crate) fn time<C: Charge>(
 
 /// The conversation ends.
 #[tactic(auto, unfolding(crate::specs::Directions::dir_weight))]
-pub(crate) fn end<C: Charge>(
-    dir: &mut Dir<C>,
-    alloc: Global,
-    at: u64,
-) -> Result<Step<C>, Memory>
+pub(crate) fn end<C: Charge>(dir: &mut Dir<C>, alloc: Global, at: u64) -> Result<Step<C>, Memory>
     requires at { at ≤ 2 ^ 62 }
     ensures step { IfOk result (λ step. (t : Terms) (d : Direction) (pieces : List Piece) → DirStands (charge_by C.amount C.stamp) dir.old d Rests pieces
         → IsStep (charge_by C.amount C.stamp) (DirStands (charge_by C.amount C.stamp) dir.new) t (dir_kind dir.old) d (Ends at) 0 pieces step) }

@@ -14,12 +14,12 @@ ghost use Rattle.convo.specs.Talk.{Talk, IsWantOf, asked_in};
 ghost use Rattle.convo.specs.Going.{charges_going};
 ghost use Rattle.convo.specs.Standing.{HandsOver, IsAskWithin, IsRest, IsResting, IsLeft, asked_of, weight_of_convo};
 
+use crate::Want;
 use crate::going::Going;
 use crate::half::Half;
 use crate::moment::Moment;
 use crate::origin::Origin;
 use crate::stage::Stage;
-use crate::Want;
 use chunkpart::Chunk;
 use evring::{Event, Kept, Reason, Way};
 use prio_budget::Charge;

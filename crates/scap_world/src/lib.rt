@@ -9,8 +9,6 @@ mod on_disk;
 mod shelf;
 mod sink;
 mod source;
-#[cfg(test)]
-mod tests;
 mod whole;
 
 pub use fault::{Failed, Memory, WorldFault};

@@ -4,8 +4,6 @@
 //! pcapfile (why a file is no capture) and textout (texts and numbers).
 #![tactic(auto)]
 
-#[cfg(test)]
-mod fault_tests;
 mod key;
 pub mod laws;
 mod limits;
@@ -22,13 +20,9 @@ pub mod rows;
 mod setting;
 mod settings;
 mod settings_error;
-#[cfg(test)]
-mod settings_tests;
 mod size;
 mod status;
 mod status_text;
-#[cfg(test)]
-mod tests;
 mod time;
 mod value;
 mod word;
