@@ -2,4 +2,4 @@ use Rattle.flowdir.specs.Boundary.{charge_by}
 use Rattle.convo.proofs.direction.due.Goals as goal
 
 pub returns : goal.returns
-returns g c = λ t d pieces s st. c.due.ensures (charge_by g.C.Charge.amount g.C.Charge.stamp) t d pieces s st.stands
+returns g c = λ t d pieces s st. c.due.ensures.stands (charge_by g.C.Charge.amount g.C.Charge.stamp) t d pieces s st.stands
