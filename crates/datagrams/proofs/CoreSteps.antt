@@ -26,7 +26,7 @@ use Rattle.streamdefs.specs.Pending.{is_pending}
 use Rattle.datagrams.specs.Talk.{Talk, TalksFor}
 use Rattle.datagrams.specs.Table.{Kept, IsOne, AllStand, own, IsCalm, StandsForCore, HasNoId, HasNoKey, told_of}
 use Rattle.datagrams.proofs.TalkSteps.{answered_stands}
-use Rattle.datagrams.proofs.TableLemmas.{Split, split, joined_stand, NoneHas, none_has, none_keyed, find_none, find_at, put_at, put_new, latest_none, latest_at, awaited_none, awaited_at, own_same, own-append, others_told, others_answered, own_next, drop_append, drop_next}
+use Rattle.datagrams.proofs.TableLemmas.{Split, split, joined_stand, NoneHas, none_has, none_keyed, find_none, find_at, put_at, put_new, latest_none, latest_at, own_same, own-append, others_told, others_answered, own_next, drop_append, drop_next}
 use Rattle.datagrams.specs.Steps.{DoesEnd, DoesOne}
 use Rattle.datagrams.specs.Replay.{IsLawfulEntry, charges_in, silent}
 
@@ -48,20 +48,35 @@ nothing false = refl
 pub no_times : (t : Terms) (k : Talk) (c : Convo) (alive : Bool) → TalksFor alive k c → time_dues (plain t) c ≡ []
 no_times t k c alive st = (λ i. cond (is_live c) (no_dues t k.fore c.directions.fore st.fore i ++ no_dues t k.back c.directions.back st.back i) []) ∙ nothing (is_live c)
 
-before_due : (now at : ℕ) → now < at → (nat_lt now at && true) ≡ true
-before_due now at h = grind (arith, nat_tests)
+later : (now at : ℕ) (rest : Bool) → now < at → rest ≡ true → (nat_lt now at && rest) ≡ true
+later now at rest h none = grind (arith, nat_tests)
 
-pub only_idle : (t : Terms) (k : Talk) (c : Convo) (now : ℕ) (id : ℕ) → TalksFor true k c → now < c.clock + t.idle
-    → list_all (λ d. nat_lt now d.at) (dues_of (plain t) (record { id = id; convo = c }) ++ []) ≡ true
-only_idle t k c now id st h =
-    (λ i. list_all (λ d. nat_lt now d.at) ((map timed (no_times t k c true st i) ++ map idled (cond (st.alive_is i) ((c.clock + t.idle) ∷ []) [])) ++ []))
-    ∙ before_due now (c.clock + t.idle) h
+-- nothing of a conversation of datagrams is due before its idle time has passed
+only_idle : (t : Terms) (k : Kept) (c : Convo) (now id : ℕ) → TalksFor k.live k.talk c → now < c.clock + t.idle
+    → (rest : List Due) → list_all (λ d. nat_lt now d.at) rest ≡ true
+    → list_all (λ d. nat_lt now d.at) (dues_of (plain t) (record { id = id; convo = c }) ++ rest) ≡ true
+only_idle t k c now id st h rest none =
+    (λ i. list_all (λ d. nat_lt now d.at) ((map timed (no_times t k.talk c k.live st i) ++ map idled (cond (st.alive_is i) ((c.clock + t.idle) ∷ []) [])) ++ rest))
+    ∙ before k.live
   where
     timed : ℕ → Due
     timed at = record { at = at; conv = id; idle = false }
 
     idled : ℕ → Due
     idled at = record { at = at; conv = id; idle = true }
+
+    before : (live : Bool) → list_all (λ d. nat_lt now d.at) (map idled (cond live ((c.clock + t.idle) ∷ []) []) ++ rest) ≡ true
+    before true = later now (c.clock + t.idle) (list_all (λ d. nat_lt now d.at) rest) h none
+    before false = none
+
+-- so nothing of the core is, in a capture that is shorter than the idle time
+pub nothing_due : (t : Terms) (first now : ℕ) (waiting : List Told) (ks : List Kept) (os : List Open) → AllStand first waiting ks os → now < first + t.idle
+    → list_all (λ d. nat_lt now d.at) (flat_map (dues_of (plain t)) os) ≡ true
+nothing_due t first now waiting [] [] st until = refl
+nothing_due t first now waiting [] (o ∷ os) st until = absurd st
+nothing_due t first now waiting (k ∷ ks) [] st until = absurd st
+nothing_due t first now waiting (k ∷ ks) (o ∷ os) st until =
+    only_idle t k o.convo now o.id st.0.talks (omega (arith, st.0.clock, until)) (flat_map (dues_of (plain t)) os) (nothing_due t first now waiting ks os st.1 until)
 
 pub follows : (core : Core) (last : Option Line) (act : Act) → IsCalm last → FollowsReplaced core last act
 follows core None act h = tt
@@ -156,11 +171,7 @@ seg_core t last first xs k ys waiting core p looks asked events next st ids_x id
         sym (conversation_is (plain t) core p s.here latest s.one.talks.alive_is ∙ s.one.id),
         and_false (is_live (found_by core line)) (has_other_base (found_by core line) p) (no_base (found_by core line) p udp),
       );
-      dues = (
-        ap (λ os. list_all (λ d. nat_lt p.now d.at) (flat_map (dues_of (plain t)) os)) (ap (filter (λ o. o.id == k.id)) s.is ∙ awaited_at k.id s.before s.here s.behind before_ids s.one.id behind_ids)
-            ∙ only_idle t k c p.now s.here.id s.one.talks (omega (arith, s.one.clock, until)),
-        omega (arith, st.timed),
-      );
+      dues = (nothing_due t first p.now waiting (xs ++ record { live = true; talk = k } ∷ ys) core.convos st.all until, omega (arith, st.timed));
       ends = (subst (λ o. PaysOwed o line) (sym st.owed) tt, follows core core.last act st.calm, subst (λ f. FinishesInOrder f k.id act) (sym st.finished_is) tt, subst (λ o. EndsLive last o act) (sym known) tt);
       answers = tt;
       window = omega (arith, waits, room);
@@ -213,12 +224,12 @@ conversation_new terms core p e = ap of e
 
 pub new_core : (t : Terms) (last first : ℕ) (ks : List Kept) (core : Core) (p : Packet) (looks : List LookEntry) (asked : List Ask) (events : List Event) (next : Talk)
     → StandsForCore first ks [] None core
-    → HasNoId p.number ks → HasNoKey p.key ks → is_tcp p ≡ false → next.id ≡ p.number → is_empty events ≡ false → first ≤ p.now
+    → HasNoId p.number ks → HasNoKey p.key ks → is_tcp p ≡ false → next.id ≡ p.number → is_empty events ≡ false → first ≤ p.now → p.now < first + t.idle
     → DoesOne t (new_convo p) (Seg p p.now looks []) asked events next
     → AreLooksFor (plain t) (new_convo p) looks asked
     → IsLawfulEntry (plain t) last core (record { conv = p.number; act = Seg p p.now looks [] })
     × StandsForCore first (ks ++ record { live = true; talk = next } ∷ []) (told_of p.number events) None (core_after (plain t) core (record { conv = p.number; act = Seg p p.now looks [] }))
-new_core t last first ks core p looks asked events next st ids keys udp same_id some from done fit = (lawful, stands)
+new_core t last first ks core p looks asked events next st ids keys udp same_id some from until done fit = (lawful, stands)
   where
     act : Act
     act = Seg p p.now looks []
@@ -250,7 +261,7 @@ new_core t last first ks core p looks asked events next st ids keys udp same_id 
         sym (conversation_new (plain t) core p (latest_none p.key core.convos (none_keyed first [] p.key ks core.convos st.all keys))),
         and_false (is_live (found_by core line)) (has_other_base (found_by core line) p) (no_base (found_by core line) p udp),
       );
-      dues = (ap (λ os. list_all (λ d. nat_lt p.now d.at) (flat_map (dues_of (plain t)) os)) (awaited_none p.number core.convos no_ids), omega (arith, st.timed));
+      dues = (nothing_due t first p.now [] ks core.convos st.all until, omega (arith, st.timed));
       ends = (subst (λ o. PaysOwed o line) (sym st.owed) tt, follows core core.last act st.calm, subst (λ f. FinishesInOrder f p.number act) (sym st.finished_is) tt, subst (λ o. EndsLive last o act) (sym unknown) tt);
       answers = tt;
       window = omega (arith, waits);
@@ -456,8 +467,7 @@ end_core t last first xs k ys waiting finished core events next st ids_x ids_y s
     lawful : IsLawfulEntry (plain t) last core line
     lawful = record {
       conversations = tt;
-      dues = ap (λ os. list_all (λ d. nat_lt last d.at) (flat_map (dues_of (plain t)) os)) (ap (filter (λ o. o.id == k.id)) s.is ∙ awaited_at k.id s.before s.here s.behind before_ids s.one.id behind_ids)
-          ∙ only_idle t k c last s.here.id s.one.talks (omega (arith, s.one.clock, until));
+      dues = nothing_due t first last waiting (xs ++ record { live = true; talk = k } ∷ ys) core.convos st.all until;
       ends = (
         subst (λ o. PaysOwed o line) (sym st.owed) tt,
         follows core core.last act st.calm,

@@ -82,12 +82,12 @@ datagram_kept t last first packets done book xs k ys waiting answered text p v r
 pub datagram_new : (t : Terms) (last first : ℕ) (packets done : List Packet) (book : List CoreEntry) (ks : List Kept) (answered : ℕ) (text : List ℕ) (p : Packet) (v : Verdict)
     → Replayed (plain t) last first done (map (line_of packets) book) ks [] None answered text
     → packet_of packets p.number ≡ p
-    → HasNoId p.number ks → HasNoKey p.key ks → is_tcp p ≡ false → first ≤ p.now → IsVerdict t p.payload v
+    → HasNoId p.number ks → HasNoKey p.key ks → is_tcp p ≡ false → first ≤ p.now → p.now < first + t.idle → IsVerdict t p.payload v
     → Replayed (plain t) last first (done ++ p ∷ []) (map (line_of packets) (book ++ record { conv = p.number; entry = E.Seg p.number p.now (looks_by v) [] } ∷ []))
     (ks ++ record { live = true; talk = talk_by t.chunk p v (first_talk p) } ∷ []) (told_of p.number (New ∷ delivered_by t.chunk p v (first_talk p))) None answered text
-datagram_new t last first packets done book ks answered text p v r here ids keys udp from is =
+datagram_new t last first packets done book ks answered text p v r here ids keys udp from until is =
     replayed_new t last first packets done book ks answered text p (looks_by v) (asked_by p.payload v (flow_of (way_in k p) k)) (New ∷ delivered_by t.chunk p v k) (talk_by t.chunk p v k)
-    r here ids keys udp (same_id k (way_in k p) _) refl from (does_one t k (new_convo p) p v true (new_talks p udp) udp is refl) (fits_any t k (new_convo p) p.payload v _ (new_talks p udp) is)
+    r here ids keys udp (same_id k (way_in k p) _) refl from until (does_one t k (new_convo p) p v true (new_talks p udp) udp is refl) (fits_any t k (new_convo p) p.payload v _ (new_talks p udp) is)
   where
     k : Talk
     k = first_talk p

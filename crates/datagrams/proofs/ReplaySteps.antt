@@ -70,17 +70,17 @@ pub replayed_new : (t : Terms) (last first : ℕ) (packets done : List Packet) (
     (p : Packet) (looks : List LookEntry) (asked : List Ask) (events : List Event) (next : Talk)
     → Replayed (plain t) last first done (map (line_of packets) book) ks [] None answered text
     → packet_of packets p.number ≡ p
-    → HasNoId p.number ks → HasNoKey p.key ks → is_tcp p ≡ false → next.id ≡ p.number → is_empty events ≡ false → first ≤ p.now
+    → HasNoId p.number ks → HasNoKey p.key ks → is_tcp p ≡ false → next.id ≡ p.number → is_empty events ≡ false → first ≤ p.now → p.now < first + t.idle
     → DoesOne t (new_convo p) (Seg p p.now looks []) asked events next
     → AreLooksFor (plain t) (new_convo p) looks asked
     → Replayed (plain t) last first (done ++ p ∷ []) (map (line_of packets) (book ++ record { conv = p.number; entry = E.Seg p.number p.now looks [] } ∷ []))
     (ks ++ record { live = true; talk = next } ∷ []) (told_of p.number events) None answered text
-replayed_new t last first packets done book ks answered text p looks asked events next r here ids keys udp same_id some from does fit =
+replayed_new t last first packets done book ks answered text p looks asked events next r here ids keys udp same_id some from until does fit =
     on_book (plain t) last first packets (done ++ p ∷ []) book (record { conv = p.number; entry = E.Seg p.number p.now looks [] }) (record { conv = p.number; act = Seg p p.now looks [] })
     (ks ++ record { live = true; talk = next } ∷ []) (told_of p.number events) None answered text (line_at_seg packets p p.number p.now looks [] here)
     (replayed_more (plain t) last first done (p ∷ []) (map (line_of packets) book) (record { conv = p.number; act = Seg p p.now looks [] }) ks
     (ks ++ record { live = true; talk = next } ∷ []) [] (told_of p.number events) None None answered text r
-    (new_core t last first ks (core_of (plain t) packets book) p looks asked events next r.stands ids keys udp same_id some from does fit) refl refl refl)
+    (new_core t last first ks (core_of (plain t) packets book) p looks asked events next r.stands ids keys udp same_id some from until does fit) refl refl refl)
 
 -- The answer to the first event that waits.
 pub replayed_served : (t : Terms) (last first : ℕ) (packets done : List Packet) (book : List CoreEntry) (xs : List Kept) (k : Kept) (ys : List Kept) (w : Told) (waiting : List Told) (finished : Option ℕ)

@@ -95,11 +95,11 @@ standing_kept t last first packets done book xs k ys waiting answered text stamp
 pub standing_new : (t : Terms) (last first : ℕ) (packets done : List Packet) (book : List CoreEntry) (ks : List Kept) (answered : ℕ) (text : List ℕ) (stamp used : ℕ) (p : Packet) (v : Verdict)
     → Standing t last first packets done book ks [] None answered text stamp used
     → packet_of packets p.number ≡ p
-    → HasNoId p.number ks → HasNoKey p.key ks → is_tcp p ≡ false → first ≤ p.now → IsVerdict t p.payload v → IsNow t.marks.limit stamp used p.payload v
+    → HasNoId p.number ks → HasNoKey p.key ks → is_tcp p ≡ false → first ≤ p.now → p.now < first + t.idle → IsVerdict t p.payload v → IsNow t.marks.limit stamp used p.payload v
     → Standing t last first packets (done ++ p ∷ []) (book ++ record { conv = p.number; entry = E.Seg p.number p.now (looks_by v) [] } ∷ [])
     (ks ++ record { live = true; talk = talk_by t.chunk p v (first_talk p) } ∷ []) (told_of p.number (New ∷ delivered_by t.chunk p v (first_talk p))) None answered text (stamp_by v stamp) (used_by p.payload v used)
-standing_new t last first packets done book ks answered text stamp used p v s here ids keys udp from is at = record {
-  replayed = datagram_new t last first packets done book ks answered text p v s.replayed here ids keys udp from is;
+standing_new t last first packets done book ks answered text stamp used p v s here ids keys udp from until is at = record {
+  replayed = datagram_new t last first packets done book ks answered text p v s.replayed here ids keys udp from until is;
   turn = in_turn_more t.marks.limit book (record { conv = p.number; entry = E.Seg p.number p.now (looks_by v) [] }) 0 0 stamp used (stamp_by v stamp) (used_by p.payload v used) s.turn
       (verdict_turn t p.number p.number p.now stamp used p.payload v is at);
   used_is = held_new bytes_of t.chunk ks p v ∙ more_used t.marks.limit stamp used p.payload v _ s.used_is;

@@ -425,7 +425,7 @@ stands_new t last first packets done s p h none calm next stamp = record {
         (told_of p.number (New ∷ delivered_by t.chunk p v k)) None s.answered s.text (stamp_by v s.budget.stamp) (used_by p.payload v s.budget.used)
     entered_ =
         standing_new t last first packets done s.book (kept_in rows) s.answered s.text s.budget.stamp s.budget.used p v standing next.here ids
-        (rows_lack true p.key s.table none) next.udp next.from is now
+        (rows_lack true p.key s.table none) next.udp next.from next.until is now
 
     counted_ : Tallies t (map (line_of packets) (s.book ++ record { conv = p.number; entry = E.Seg p.number p.now (looks_by v) [] } ∷ [])) (rows ++ row ∷ [])
         (core_in t packets (s.book ++ record { conv = p.number; entry = E.Seg p.number p.now (looks_by v) [] } ∷ [])).convos

@@ -85,18 +85,6 @@ pub latest_at : (key : Key) (before : List Open) (o : Open) (behind : List Open)
 latest_at key [] o behind h e = (λ i. or_else (latest_none key behind h i) (cond (e i) (Some o) None))
 latest_at key (p ∷ before) o behind h e = ap (λ l. or_else l (cond (same_key p.convo.first.key key) (Some p) None)) (latest_at key before o behind h e)
 
-pub awaited_none : (id : ℕ) (os : List Open) → NoneHas id os → filter (λ o. o.id == id) os ≡ []
-awaited_none id [] h = refl
-awaited_none id (o ∷ os) h = ap (λ b. cond b (o ∷ filter (λ q. q.id == id) os) (filter (λ q. q.id == id) os)) h.0 ∙ awaited_none id os h.1
-
-pub awaited_at : (id : ℕ) (before : List Open) (o : Open) (behind : List Open) → NoneHas id before → o.id ≡ id → NoneHas id behind → filter (λ o. o.id == id) (before ++ o ∷ behind) ≡ o ∷ []
-awaited_at id [] o behind h e n =
-    ap (λ m. cond (m == id) (o ∷ filter (λ q. q.id == id) behind) (filter (λ q. q.id == id) behind)) e
-    ∙ ap (λ b. cond b (o ∷ filter (λ q. q.id == id) behind) (filter (λ q. q.id == id) behind)) (same_number id) ∙ ap (λ l. o ∷ l) (awaited_none id behind n)
-awaited_at id (p ∷ before) o behind h e n = ap (λ b. cond b (p ∷ filter (λ q. q.id == id) (before ++ o ∷ behind)) (filter (λ q. q.id == id) (before ++ o ∷ behind))) h.0 ∙ awaited_at id before o behind h.1 e n
-
--- Events that wait.
-
 pub own_other : (id conv : ℕ) (events : List Event) → (conv == id) ≡ false → own id (told_of conv events) ≡ []
 own_other id conv [] h = refl
 own_other id conv (e ∷ events) h =

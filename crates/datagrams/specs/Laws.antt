@@ -99,7 +99,7 @@ FirstIsReplayed =
     (p : Packet) (looks : List LookEntry) (asked : List Ask) (events : List Event) (next : Talk)
     → Replayed (plain t) last first done (map (line_of packets) book) ks [] None answered text
     → packet_of packets p.number ≡ p
-    → HasNoId p.number ks → HasNoKey p.key ks → is_tcp p ≡ false → next.id ≡ p.number → is_empty events ≡ false → first ≤ p.now
+    → HasNoId p.number ks → HasNoKey p.key ks → is_tcp p ≡ false → next.id ≡ p.number → is_empty events ≡ false → first ≤ p.now → p.now < first + t.idle
     → DoesOne t (new_convo p) (Seg p p.now looks []) asked events next
     → AreLooksFor (plain t) (new_convo p) looks asked
     → Replayed (plain t) last first (done ++ p ∷ []) (map (line_of packets) (book ++ record { conv = p.number; entry = E.Seg p.number p.now looks [] } ∷ []))

@@ -142,13 +142,9 @@ dues_of terms o =
     map (λ at. record { at = at; conv = o.id; idle = false }) (time_dues terms o.convo)
     ++ map (λ at. record { at = at; conv = o.id; idle = true }) (idle_dues terms o.convo)
 
--- the conversations whose dues an entry of this one waits for: this one alone
-abbrev pub awaited : Core → ℕ → List Open
-awaited core id = filter (λ o. o.id == id) core.convos
-
--- their dues
-abbrev pub dues : Terms → Core → ℕ → List Due
-dues terms core id = flat_map (dues_of terms) (awaited core id)
+-- the dues of a core: those of all its conversations
+abbrev pub dues : Terms → Core → List Due
+dues terms core = flat_map (dues_of terms) core.convos
 
 -- by moment, then by conversation, a Time before the End of `idle`
 abbrev pub is_sooner : Due → Due → Bool

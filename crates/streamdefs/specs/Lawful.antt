@@ -11,7 +11,7 @@ use Rattle.streamdefs.specs.Terms.{Terms}
 use Rattle.streamdefs.specs.View.{Ask}
 use Rattle.streamdefs.specs.Convo.{Act, Convo, Seen, seen_of, asks, released, looks_in, frees_in, mark_for, is_live, has_other_base}
 use Rattle.streamdefs.specs.Convo.Act.{Seg, Answer, Time, End}
-use Rattle.streamdefs.specs.Core.{Line, Core, Owed, Told, idle_core, find_convo, found_by, conversation_of, dues, first_due, core_at, Along}
+use Rattle.streamdefs.specs.Core.{Line, Core, Owed, Told, Due, idle_core, find_convo, found_by, conversation_of, dues, first_due, core_at, Along}
 
 -- what a handler states of an event, from the conversation's number and what it sees of the event
 abbrev pub Handler : Type 0
@@ -60,27 +60,27 @@ StandsUnder terms core line = law line.act
 abbrev pub Conversations : CoreRun → Type 0
 Conversations run = EachEntry run (StandsUnder run.terms)
 
--- 3. DUES. Nothing is due before a Seg, and before an End of `replaced` or `finish`. Each Time and each End of `idle` is the
--- first due, and is no later than the next Seg or the last clock.
+-- 3. DUES. Before a Seg, and before an End of `replaced` or `finish`, nothing of the core is due. Each Time and each End of
+-- `idle` is the first due of the core, and is no later than the core's next Seg or the last clock.
 
--- nothing that an entry waits for is due at a moment up to this one
-abbrev pub NothingDue : Terms → Core → ℕ → ℕ → Type 0
-NothingDue terms core id now = list_all (λ d. nat_lt now d.at) (dues terms core id) ≡ true
+-- nothing of the core is due at a moment up to this one
+abbrev pub NothingDue : Terms → Core → ℕ → Type 0
+NothingDue terms core now = list_all (λ d. nat_lt now d.at) (dues terms core) ≡ true
 
--- what an entry waits for first is this
-abbrev pub IsFirstDue : Terms → Core → ℕ → ℕ → Bool → Type 0
-IsFirstDue terms core id at idle = first_due (dues terms core id) ≡ Some (record { at = at; conv = id; idle = idle })
+-- the first due of the core is this
+abbrev pub IsFirstDue : Terms → Core → Due → Type 0
+IsFirstDue terms core d = first_due (dues terms core) ≡ Some d
 
 -- of one entry; a Seg is no earlier than any Time or End of `idle` before it
 abbrev pub IsInTime : Terms → Core → Line → Type 0
 IsInTime terms core line = law line.act
   where
     law : Act → Type 0
-    law (Seg p now looks frees) = NothingDue terms core line.conv now × (core.timed ≤ now)
-    law (Time at looks frees) = IsFirstDue terms core line.conv at false
-    law (End at Idle looks frees) = IsFirstDue terms core line.conv at true
-    law (End at Replaced looks frees) = NothingDue terms core line.conv at
-    law (End at Finish looks frees) = NothingDue terms core line.conv at
+    law (Seg p now looks frees) = NothingDue terms core now × (core.timed ≤ now)
+    law (Time at looks frees) = IsFirstDue terms core (record { at = at; conv = line.conv; idle = false })
+    law (End at Idle looks frees) = IsFirstDue terms core (record { at = at; conv = line.conv; idle = true })
+    law (End at Replaced looks frees) = NothingDue terms core at
+    law (End at Finish looks frees) = NothingDue terms core at
     law _ = ⊤
 
 abbrev pub Dues : CoreRun → Type 0
