@@ -1,0 +1,14 @@
+pub mod Moment
+pub mod Moves
+pub mod Steps
+pub mod AtMoment
+pub mod Ledger
+pub mod Queue
+pub mod Books
+pub mod AtEnd
+pub mod Rising
+pub mod Freed
+pub mod Served
+pub mod Holds
+pub mod Rows
+pub mod Bytes
