@@ -49,6 +49,7 @@ use Rattle.mixrun.proofs.SilentSteps.{Going, came}
 use Rattle.mixrun.proofs.SilentSteps.Going.{Completing, Beginning}
 use Rattle.mixrun.proofs.CoreQueue.{at_under}
 use Rattle.mixrun.proofs.BookSteps.{stated_first}
+use Rattle.mixrun.proofs.LinesIn.{lines_under, lines_rest}
 use Rattle.mixrun.proofs.QueueSteps.{at_each}
 use Rattle.mixrun.proofs.RiseSteps.{both_parts, of_flat, at_place, each_last, all_low}
 
@@ -115,7 +116,7 @@ settled_fresh c (End at reason looks frees) e = tt
 
 -- An answer that is taken back
 
-none_of_none : (frees : List Free) → AreAboveCharges [] frees → frees ≡ []
+pub none_of_none : (frees : List Free) → AreAboveCharges [] frees → frees ≡ []
 none_of_none [] h = refl
 none_of_none (f ∷ fs) h = absurd h
 
@@ -179,12 +180,6 @@ pub record Both (t : Terms) (m : Course) : Type 0 where
   pub settled : IsSettledUnder t m m.under
 
 module _ (t : Terms) where
-  lines_under : (m : Course) (u : Under) → m.under ≡ Some u → lines_in m ≡ m.lines ++ u.line ∷ []
-  lines_under m u e = rw e refl
-
-  lines_rest : (m : Course) → m.under ≡ None → lines_in m ≡ m.lines
-  lines_rest m e = rw e (append-nil m.lines)
-
   begins_both : (m : Course) (line : Line) → m.under ≡ None → FreesInOrder t (core_of t m) line → InTheirOrder t m → Along t (FreesInOrder t) idle_core (m.lines ++ line ∷ [])
   begins_both m line none here h = Along_push t (FreesInOrder t) idle_core m.lines line (subst (Along t (FreesInOrder t) idle_core) (lines_rest m none) h) here
 

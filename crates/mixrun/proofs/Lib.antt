@@ -9,6 +9,7 @@ pub mod BookSteps
 pub mod CountSteps
 pub mod EndLaws
 pub mod EndHistory
+pub mod LinesIn
 pub mod RiseSteps
 pub mod FreeSteps
 pub mod ServedSteps

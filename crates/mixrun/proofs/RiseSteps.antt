@@ -32,6 +32,7 @@ use Rattle.mixrun.proofs.CoreSums.{wanting_entry, CanAsk, asks_as_entry}
 use Rattle.mixrun.proofs.SilentSteps.{Going, came}
 use Rattle.mixrun.proofs.SilentSteps.Going.{Completing, Beginning}
 use Rattle.mixrun.proofs.CoreQueue.{at_under}
+use Rattle.mixrun.proofs.LinesIn.{lines_under, lines_rest}
 use Rattle.mixrun.proofs.QueueSteps.{at_each}
 
 -- Parts of joined lists
@@ -150,12 +151,6 @@ abbrev Rising : Course → Type 0
 Rising m = AreAllAbove [] (lines_in m)
 
 module _ (t : Terms) (n : ℕ) where
-  lines_under : (m : Course) (u : Under) → m.under ≡ Some u → lines_in m ≡ m.lines ++ u.line ∷ []
-  lines_under m u e = rw e refl
-
-  lines_rest : (m : Course) → m.under ≡ None → lines_in m ≡ m.lines
-  lines_rest m e = rw e (append-nil m.lines)
-
   begins_rising : (m : Course) (line : Line) → m.under ≡ None → looks_in line.act ≡ [] → Rising m → AreAllAbove [] (m.lines ++ line ∷ [])
   begins_rising m line none no_looks h =
       join [] m.lines line (subst (AreAllAbove []) (lines_rest m none) h) (subst (AreAbove (behind [] m.lines)) (sym no_looks) tt)

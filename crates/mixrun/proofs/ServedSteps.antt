@@ -39,7 +39,8 @@ use Rattle.mixrun.proofs.SilentSteps.{Going, came}
 use Rattle.mixrun.proofs.SilentSteps.Going.{Completing, Beginning}
 use Rattle.mixrun.proofs.CoreQueue.{at_under}
 use Rattle.mixrun.proofs.QueueSteps.{at_each}
-use Rattle.mixrun.proofs.FreeSteps.{rise_more}
+use Rattle.mixrun.proofs.LinesIn.{lines_under, lines_rest}
+use Rattle.mixrun.proofs.FreeSteps.{rise_more, none_of_none}
 
 -- What the workers freed for the answers of a book
 
@@ -83,15 +84,9 @@ Done m = frees_of_answers (lines_in m)
 module _ (t : Terms) where
   under_done : (m : Course) (u : Under) → m.under ≡ Some u → Done m ≡ frees_of_answers m.lines ++ done_of u.line.act
   under_done m u e = ap frees_of_answers (lines_under m u e) ∙ done_end m.lines u.line
-    where
-      lines_under : (m : Course) (u : Under) → m.under ≡ Some u → lines_in m ≡ m.lines ++ u.line ∷ []
-      lines_under m u e = rw e refl
 
   rest_done : (m : Course) → m.under ≡ None → Done m ≡ frees_of_answers m.lines
   rest_done m e = ap frees_of_answers (lines_rest m e)
-    where
-      lines_rest : (m : Course) → m.under ≡ None → lines_in m ≡ m.lines
-      lines_rest m e = rw e (append-nil m.lines)
 
   going_done : (m next : Course) → Going t m next → Done next ≡ Done m
   going_done m next (Completing u under w e) =
@@ -323,10 +318,6 @@ stamp_rises (Asks look) p = by look.granted
 stamp_rises (Frees free) p = omega arith
 stamp_rises (Emits given) p = omega arith
 stamp_rises (TakesBack r) p = omega arith
-
-none_of_none : (frees : List Free) → AreAboveCharges [] frees → frees ≡ []
-none_of_none [] h = refl
-none_of_none (f ∷ fs) h = absurd h
 
 either_none : (b : Bool) (frees : List Free) → frees ≡ [] → cond b [] frees ≡ frees
 either_none true frees e = sym e

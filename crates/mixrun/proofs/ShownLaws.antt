@@ -24,6 +24,7 @@ use Rattle.streamdefs.proofs.Delivered.{delivered}
 use Rattle.coretable.specs.Course.{Course, Under, core_of}
 use Rattle.mixrun.specs.Moment.{Setup, AtCore, Moment}
 use Rattle.mixrun.specs.Queue.{told_under, told_by}
+use Rattle.mixrun.proofs.ByteLaws.{total_join}
 use Rattle.mixrun.specs.Bytes.{classes_by, classes_along, classes_under, classes_of, fresh_of, lines_written, shown_bytes}
 
 -- One direction, one entry
@@ -51,10 +52,6 @@ carried way kept [] = refl
 carried way kept (p ∷ ps) = omega (arith, length-append p.fresh (fresh_in ps), carried way [] ps)
 
 -- Events
-
-total_join : {A : Type 0} (f : A → ℕ) (xs ys : List A) → total f (xs ++ ys) ≡ total f xs + total f ys
-total_join f [] ys = omega arith
-total_join f (x ∷ xs) ys = omega (arith, total_join f xs ys)
 
 total_take : {A : Type 0} (f : A → ℕ) (n : ℕ) (xs : List A) → total f (take n xs) ≤ total f xs
 total_take f zero xs = omega arith
