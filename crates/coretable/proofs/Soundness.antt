@@ -21,7 +21,7 @@ use Rattle.streamdefs.specs.Convo.{Act, Convo, Event, new_convo, is_live, looks_
 use Rattle.streamdefs.specs.Convo.Act.{Seg, Answer, Time, End}
 use Rattle.streamdefs.specs.Want.{Want, with_look, with_free}
 use Rattle.streamdefs.specs.Want.Want.{Reserve, Release, Emit, Rest}
-use Rattle.streamdefs.specs.Core.{Line, Core, Open, Due, Owed, Told, idle_core, core_after, found_by, find_convo, latest_of, Along}
+use Rattle.streamdefs.specs.Core.{Line, Core, Open, Due, Owed, Told, idle_core, core_after, core_at, found_by, find_convo, latest_of, Along}
 use Rattle.streamdefs.specs.Lawful.{Handler, IsLookFor, StandsUnder, IsInTime, EndsOnce, IsNextAnswer, HasRoom, HasLooks, HasFrees, LawfulBook, segs_in}
 use Rattle.streamdefs.specs.SoFar.{LawfulSoFar, HasFirstLooks, HasFirstFrees}
 use Rattle.streamdefs.proofs.Pushes.{core_at_push, Along_push}
@@ -425,6 +425,19 @@ of_last terms last number clock handler job core None First f h = tt
 of_last terms last number clock handler job core (Some u) First f h =
     let as_is : dressed_line (looks_in u.line.act) (frees_in u.line.act) u.line ≡ u.line = (λ i. record { conv = u.line.conv; act = dressed_own u.line.act i }) in
     f u.line (subst (MayBegin terms last handler core) as_is (h.fits (looks_in u.line.act) (frees_in u.line.act)).0) h.wanted
+
+-- no Time is behind the clock
+timed_by_under : (terms : Terms) (last : ℕ) (handler : Handler) (m : Course) (o : Option Under) → m.under ≡ o → IsSound terms last handler m
+    → (core_at terms idle_core (m.lines ++ option_to_list (line_of o))).timed ≤ m.clock
+timed_by_under terms last handler m None e s = subst (λ l. (core_at terms idle_core l).timed ≤ m.clock) (sym (append-nil m.lines)) (at_rest terms last handler m s e).timed
+timed_by_under terms last handler m (Some u) e s =
+    let as_is : dressed_line (looks_in u.line.act) (frees_in u.line.act) u.line ≡ u.line = (λ i. record { conv = u.line.conv; act = dressed_own u.line.act i }) in
+    let w : IsUnderWay terms last m.number m.clock handler m.job (core_of terms m) u.line = under_way terms last handler m u s e in
+    let behind : (core_after terms (core_of terms m) u.line).timed ≤ m.clock = subst (λ l. (core_after terms (core_of terms m) l).timed ≤ m.clock) as_is (w.fits (looks_in u.line.act) (frees_in u.line.act)).1.timed in
+    subst (λ (c : Core). c.timed ≤ m.clock) (sym (core_at_push terms idle_core m.lines u.line)) behind
+
+pub timed_so_far : (terms : Terms) (last : ℕ) (handler : Handler) (m : Course) → IsSound terms last handler m → (core_at terms idle_core (m.lines ++ option_to_list (line_at m))).timed ≤ m.clock
+timed_so_far terms last handler m s = timed_by_under terms last handler m m.under refl s
 
 pub lawful_so_far : (terms : Terms) (last : ℕ) (handler : Handler) (m : Course) → IsSound terms last handler m → LawfulSoFar (run_at terms last handler m) (line_at m)
 lawful_so_far terms last handler m s = record {

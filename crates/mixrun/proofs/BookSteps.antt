@@ -1,5 +1,5 @@
 -- Each step of the machine keeps the books lawful.
-use Rattle.std.proofs.Common.{◌≡◌, ℕ, ◌+◌, ◌^◌, ◌<◌, ◌⊎◌, inl, inr, Bool, true, false, cond, ◌&&◌, List, [], ◌∷◌, ◌++◌, Option, Some, None, refl, ap, sym, ◌∙◌, subst, map, take, drop, length, slice_get}
+use Rattle.std.proofs.Common.{◌≡◌, ℕ, ◌+◌, ◌^◌, ◌<◌, ◌≤◌, ◌⊎◌, inl, inr, Bool, true, false, cond, ◌&&◌, List, [], ◌∷◌, ◌++◌, Option, Some, None, refl, ap, sym, ◌∙◌, subst, arith, map, take, drop, length, slice_get}
 use Rattle.std.specs.Prelude.{nat_le}
 use Rattle.evring.specs.declared.advice.Advice.{Advice}
 use Rattle.prio_budget.specs.declared.free.Free.{Free}
@@ -120,26 +120,35 @@ module _ (t : Terms) (last : ℕ) (handler : Handler) where
       by (Completing u under w same) = subst (λ (y : Course). AreLoadable last y.number y.clock inputs) (sym same) h
       by (Beginning line none fresh room same) = subst (λ (y : Course). AreLoadable last y.number y.clock inputs) (sym same) h
 
+  silent_clock : (x next : Course) → step t x ≡ Goes next → x.clock ≤ last → next.clock ≤ last
+  silent_clock x next e h = by (goes_on t x next e)
+    where
+      by : Going t x next → next.clock ≤ last
+      by (Completing u under w same) = subst (λ (y : Course). y.clock ≤ last) (sym same) h
+      by (Beginning line none fresh room same) = subst (λ (y : Course). y.clock ≤ last) (sym same) h
+
   settles : (a b : AtCore) (n : ℕ) (stop : Stop) → Comes t n a.course stop b.course → b ≡ record a { course = b.course } → Fed a → Fed b
   settles a b n stop comes same h = record {
     sound = runs t (IsSound t last handler) (λ m next e s. step_is_sound t last handler m next s e) n a.course b.course comes.0 h.sound;
     inputs = subst (λ (l : List Input). AreLoadable last b.course.number b.course.clock l) (sym (ap (λ (x : AtCore). x.inputs) same))
         (runs t (λ m. AreLoadable last m.number m.clock a.inputs) (silent_numbers n a.course b.course a.inputs) n a.course b.course comes.0 h.inputs);
+    until = runs t (λ m. m.clock ≤ last) silent_clock n a.course b.course comes.0 h.until;
   }
 
   loads : (input : Input) (rest : List Input) (m : Course) → m.under ≡ None → m.job ≡ Nothing → IsSound t last handler m → AreLoadable last m.number m.clock (input ∷ rest)
-      → IsSound t last handler (with_input m input) × AreLoadable last (with_input m input).number (with_input m input).clock rest
-  loads (Brings p) rest m none nothing s h = (load_is_sound t last handler m p s none nothing h.0 h.1, h.2)
-  loads (Ends at) rest m none nothing s h = (closing_is_sound t last handler m at s none nothing h.0 h.1, subst (λ (l : List Input). AreLoadable last m.number at l) (sym h.2) tt)
+      → IsSound t last handler (with_input m input) × AreLoadable last (with_input m input).number (with_input m input).clock rest × ((with_input m input).clock ≤ last)
+  loads (Brings p) rest m none nothing s h = (load_is_sound t last handler m p s none nothing h.0 h.1, h.3, h.2)
+  loads (Ends at) rest m none nothing s h = (closing_is_sound t last handler m at s none nothing h.0 h.1, subst (λ (l : List Input). AreLoadable last m.number at l) (sym h.2) tt, omega (arith, h.0))
 
   module _ (p : Pair) (hand : List Given) (a : AtCore) (f : Fed a) where
     with_under : (change : Course → Under → Course) (u : Under) → a.course.under ≡ Some u → IsSound t last handler (change a.course u)
-        → AreLoadable last (change a.course u).number (change a.course u).clock a.inputs → (events : List Given) → Fed (record { inputs = a.inputs; course = under_way change a.course; events = events; answers = a.answers })
-    with_under change u under s l events =
+        → AreLoadable last (change a.course u).number (change a.course u).clock a.inputs → (change a.course u).clock ≤ last → (events : List Given) → Fed (record { inputs = a.inputs; course = under_way change a.course; events = events; answers = a.answers })
+    with_under change u under s l c events =
         let same : under_way change a.course ≡ change a.course u = at_under change a.course u under in
         record {
           sound = subst (IsSound t last handler) (sym same) s;
           inputs = subst (λ (m : Course). AreLoadable last m.number m.clock a.inputs) (sym same) l;
+          until = subst (λ (m : Course). m.clock ≤ last) (sym same) c;
         }
 
     asks : (look : LookEntry) (ask : Ask) (k : ℕ) → step t a.course ≡ Stops (Wants (Reserve ask k)) → look ≡ look_at p ask.bytes k → p.stamp < 2 ^ 31 → Fed (moved t (Asks look) a)
@@ -149,18 +158,18 @@ module _ (t : Terms) (last : ℕ) (handler : Handler) where
         let marked : k ≡ mark t.marks (priority_in_force t c) = marked_by t c entry.0.line.act entry.0.emitted ask k _ refl entry.2 in
         let fits : IsLookFor t c (look_at p ask.bytes k) ask = (refl, ap (nat_le (p.used + ask.bytes)) marked, early) in
         with_under (λ m u. looked m u look) entry.0 entry.1
-        (look_is_sound t last handler a.course entry.0 ask k look f.sound entry.1 entry.2 (subst (λ (l : LookEntry). IsLookFor t c l ask) (sym is) fits)) f.inputs a.events
+        (look_is_sound t last handler a.course entry.0 ask k look f.sound entry.1 entry.2 (subst (λ (l : LookEntry). IsLookFor t c l ask) (sym is) fits)) f.inputs f.until a.events
 
     frees : (free : Free) (charge : Charge) → step t a.course ≡ Stops (Wants (Lets_go charge)) → free ≡ free_at p charge → Fed (moved t (Frees free) a)
     frees free charge e is =
         let entry = wanting_entry t a.course (Lets_go charge) e in
         with_under (λ m u. freed m u free) entry.0 entry.1
-        (free_is_sound t last handler a.course entry.0 charge free f.sound entry.1 entry.2 (ap (λ (x : Free). x.bytes) is)) f.inputs a.events
+        (free_is_sound t last handler a.course entry.0 charge free f.sound entry.1 entry.2 (ap (λ (x : Free). x.bytes) is)) f.inputs f.until a.events
 
     emits : (given : Given) (event : Event) → step t a.course ≡ Stops (Wants (Emit event)) → Fed (moved t (Emits given) a)
     emits given event e =
         let entry = wanting_entry t a.course (Emit event) e in
-        with_under emitted entry.0 entry.1 (emit_is_sound t last handler a.course entry.0 f.sound entry.1) f.inputs (a.events ++ given ∷ [])
+        with_under emitted entry.0 entry.1 (emit_is_sound t last handler a.course entry.0 f.sound entry.1) f.inputs f.until (a.events ++ given ∷ [])
 
     -- an answer is the one that the core's next event has
     takes_back : (reply : Reply) → a.course.under ≡ None → IsNext t handler a.course reply → ((c : Convo) → find_convo reply.given.conv (core_of t a.course).convos ≡ Some c
@@ -169,6 +178,7 @@ module _ (t : Terms) (last : ℕ) (handler : Handler) where
       sound = answer_is_sound t last handler a.course (told_of reply.given) reply.advice reply.frees f.sound none
           (record { next = next.event; stated = stated; freed = λ c e. first_of_given c reply.advice reply.given.event reply.frees next.frees });
       inputs = f.inputs;
+      until = f.until;
     }
 
     moves : (move : CoreMove) → MayMove t p a move
@@ -180,7 +190,7 @@ module _ (t : Terms) (last : ℕ) (handler : Handler) where
         by Rests e s =
             let free = rests_at t a.course e in
             let there = loads input (drop 1 a.inputs) a.course free.0 free.1 f.sound (subst (AreLoadable last a.course.number a.course.clock) (first_of input a.inputs s) f.inputs) in
-            record { sound = there.0; inputs = there.1 }
+            record { sound = there.0; inputs = there.1; until = there.2 }
         by (Wants (Reserve ask k)) e s = absurd s
         by (Wants (Lets_go charge)) e s = absurd s
         by (Wants (Emit event)) e s = absurd s
@@ -241,7 +251,7 @@ stated_first t handler a hand q replies reply none first =
 -- A step of the machine
 module _ (s : Setup) (m n : Moment) (order : InOrder s m) (fed : AreFed s m) where
   same_course : (c : ℕ) (a : AtCore) (events : List Given) (answers : List Reply) → IsFed s.terms s.last (handler_of s c) a → IsFed s.terms s.last (handler_of s c) (record { inputs = a.inputs; course = a.course; events = events; answers = answers })
-  same_course c a events answers h = record { sound = h.sound; inputs = h.inputs }
+  same_course c a events answers h = record { sound = h.sound; inputs = h.inputs; until = h.until }
 
   core_fed : (c : ℕ) (back : Bool) → MovesCore s c back m n → AreFed s n
   core_fed c back h =

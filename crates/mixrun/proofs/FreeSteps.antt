@@ -2,7 +2,7 @@
 -- and above each earlier free.
 use Rattle.std.proofs.Common.{◌≡◌, ℕ, suc, ◌≤◌, ◌<◌, inl, inr, Bool, true, false, cond, List, [], ◌∷◌, ◌++◌, Option, Some, None, refl, ap, sym, ◌∙◌, subst, arith, append-nil, map, flat_map, drop, length, slice_get}
 use Rattle.std.specs.Prelude.{◌&&◌, set}
-use Rattle.std.proofs.lemmas.List.{length-append, length-map}
+use Rattle.std.proofs.lemmas.List.{length-append, length-map, length-set}
 use Rattle.prio_budget.specs.declared.free.Free.{Free}
 use Rattle.evring.specs.declared.advice.Advice.{Advice}
 use Rattle.histbook.specs.declared.look_entry.LookEntry.{LookEntry}
@@ -32,6 +32,7 @@ use Rattle.coretable.proofs.Wants.{released_next, asks_before_releases}
 use Rattle.coretable.proofs.Soundness.{at_rest, under_way as under_way_is, found_look, found_free}
 use Rattle.coretable.proofs.Answers.{next_of}
 use Rattle.coretable.proofs.Entered.{each_end}
+use Rattle.coretable.proofs.WantLemmas.{got_within}
 use Rattle.mixrun.specs.declared.actor.Actor.{Actor}
 use Rattle.mixrun.specs.declared.actor.Actor.TheVariants as actors
 use Rattle.mixrun.specs.Moment.{Setup, Reply, AtCore, InHand, AtWorker, Pair, Moment}
@@ -171,7 +172,7 @@ each_second P (x ∷ xs) ys h = each_second P xs ys h.1
 abbrev InTheirOrder : Terms → Course → Type 0
 InTheirOrder t m = Along t (FreesInOrder t) idle_core (lines_in m)
 
-split : (t : Terms) (Law : Core → Line → Type 0) (core : Core) (xs : List Line) (line : Line) → Along t Law core (xs ++ line ∷ []) → Along t Law core xs × Law (core_at t core xs) line
+pub split : (t : Terms) (Law : Core → Line → Type 0) (core : Core) (xs : List Line) (line : Line) → Along t Law core (xs ++ line ∷ []) → Along t Law core xs × Law (core_at t core xs) line
 split t Law core [] line h = (tt, h.0)
 split t Law core (x ∷ xs) line h = let rest = split t Law (core_after t core x) xs line h.1 in ((h.0, rest.0), rest.1)
 
@@ -350,6 +351,9 @@ module _ (s : Setup) (m n : Moment) (order : InOrder s m) (fed : AreFed s m) (ba
   same_hands : n.workers ≡ m.workers → (w : ℕ) (x : AtWorker) (hand : InHand) → slice_get n.workers w ≡ Some x → x.hand ≡ Some hand → IsFreedHand (handler_at s.handlers w) hand
   same_hands e w x hand there has = h.hands w x hand (subst (λ (l : List AtWorker). slice_get l w ≡ Some x) e there) has
 
+  still_known : length n.cores ≡ length m.cores → (hand : InHand) → hand.core < length m.cores → hand.core < length n.cores
+  still_known same hand less = omega (arith, less, same)
+
   core_freed : (c : ℕ) (back : Bool) → MovesCore s c back m n → FreesRising s n
   core_freed c back k = record {
     cores = at_each (λ d a. AreFreed s.terms a) m.cores n.cores c k.before k.after k.is_it k.cores
@@ -357,7 +361,14 @@ module _ (s : Setup) (m n : Moment) (order : InOrder s m) (fed : AreFed s m) (ba
         (λ reply none first. (stated_first s.terms (handler_of s c) k.before _ (order.waits c k.before k.is_it) (order.replies c k.before k.is_it) reply none first).0))
         (λ d a other there. h.cores d a there);
     hands = same_hands k.workers;
+    known = λ w x hand there has. still_known (ap (length {A = AtCore}) k.cores ∙ length-set m.cores c k.after) hand (h.known w x hand (subst (λ (l : List AtWorker). slice_get l w ≡ Some x) k.workers there) has);
   }
+
+  one_known : (w : ℕ) (x y : AtWorker) → slice_get m.workers w ≡ Some x → n.workers ≡ set m.workers w y → length n.cores ≡ length m.cores → ((hand : InHand) → y.hand ≡ Some hand → hand.core < length m.cores)
+      → (v : ℕ) (z : AtWorker) (hand : InHand) → slice_get n.workers v ≡ Some z → z.hand ≡ Some hand → hand.core < length n.cores
+  one_known w x y is e same here v z hand there has =
+      at_each (λ v z. (hand : InHand) → z.hand ≡ Some hand → hand.core < length n.cores) m.workers n.workers w x y is e (λ hand has. still_known same hand (here hand has))
+      (λ v z other there hand has. still_known same hand (h.known v z hand there has)) v z there hand has
 
   -- hands, where one worker changes
   one_hand : (w : ℕ) (x y : AtWorker) → slice_get m.workers w ≡ Some x → n.workers ≡ set m.workers w y → ((hand : InHand) → y.hand ≡ Some hand → IsFreedHand (handler_at s.handlers w) hand)
@@ -372,6 +383,8 @@ module _ (s : Setup) (m n : Moment) (order : InOrder s m) (fed : AreFed s m) (ba
         (let was = h.cores k.core k.at k.is_core in record { lines = was.lines; settled = was.settled; answers = was.answers }) (λ d a other there. h.cores d a there);
     hands = one_hand w k.worker (record k.worker { hand = Some (record { core = k.core; given = k.given; advice = None; frees = [] }) }) k.is_it k.workers
         (λ hand e. let same : record { core = k.core; given = k.given; advice = None; frees = [] } ≡ hand = cc in subst (IsFreedHand (handler_at s.handlers w)) same (tt, tt));
+    known = one_known w k.worker (record k.worker { hand = Some (record { core = k.core; given = k.given; advice = None; frees = [] }) }) k.is_it k.workers (ap (length {A = AtCore}) k.cores ∙ length-set m.cores k.core _)
+        (λ hand e. let same : record { core = k.core; given = k.given; advice = None; frees = [] } ≡ hand = cc in subst (λ (x : InHand). x.core < length m.cores) same (got_within m.cores k.core k.at k.is_core));
   }
 
   gives : (w : ℕ) → GivesOne s w m n → FreesRising s n
@@ -381,6 +394,8 @@ module _ (s : Setup) (m n : Moment) (order : InOrder s m) (fed : AreFed s m) (ba
         (λ hand e. let same : new ≡ hand = cc in subst (IsFreedHand handler) same
         (more (owed_for k.hand.given.event (advice_of handler k.hand)) k.hand.frees k.charge (free_at m.pair k.charge) (h.hands w k.worker k.hand k.is_it k.has) k.next k.early
         (hand_low s m balanced w k.worker k.hand k.is_it k.has)));
+    known = one_known w k.worker (record k.worker { hand = Some new }) k.is_it k.workers (ap (length {A = AtCore}) k.cores)
+        (λ hand e. let same : new ≡ hand = cc in subst (λ (x : InHand). x.core < length m.cores) same (h.known w k.worker k.hand k.is_it k.has));
   }
     where
       handler : Handler
@@ -395,6 +410,7 @@ module _ (s : Setup) (m n : Moment) (order : InOrder s m) (fed : AreFed s m) (ba
         (let was = h.cores k.hand.core k.at k.is_core in record { lines = was.lines; settled = was.settled; answers = each_end IsFreedReply k.at.answers (reply_of handler k.hand) was.answers (h.hands w k.worker k.hand k.is_it k.has) })
         (λ d a other there. h.cores d a there);
     hands = one_hand w k.worker (record { hand = None; served = k.worker.served ++ k.hand.core ∷ [] }) k.is_it k.workers (λ hand e. absurd cc);
+    known = one_known w k.worker (record { hand = None; served = k.worker.served ++ k.hand.core ∷ [] }) k.is_it k.workers (ap (length {A = AtCore}) k.cores ∙ length-set m.cores k.hand.core _) (λ hand e. absurd cc);
   }
     where
       handler : Handler

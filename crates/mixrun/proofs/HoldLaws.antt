@@ -17,7 +17,7 @@ use Rattle.coretable.proofs.Soundness.{begins_soundly, lawful_so_far}
 use Rattle.mixrun.specs.declared.actor.Actor.{Actor}
 use Rattle.mixrun.specs.Moment.{Setup, Input, Given, AtCore, AtWorker, Pair, Moment}
 use Rattle.mixrun.specs.Steps.{Steps, Offers, opening, opening_core, opening_worker}
-use Rattle.mixrun.specs.AtMoment.{line_under, lines_in, frees_in_hand, packet_in, run_so_far, BooksSoFar, BudgetSoFar, moves_at, looks_at}
+use Rattle.mixrun.specs.AtMoment.{line_under, lines_in, frees_in_hand, packet_in, run_so_far, moves_at, looks_at}
 use Rattle.mixrun.specs.Ledger.{AreMarks, LeadsTo}
 use Rattle.mixrun.proofs.ListLemmas.{total_set}
 use Rattle.mixrun.proofs.LedgerLemmas.{leads_on}
@@ -68,15 +68,15 @@ map_joined : {A B : Type 0} (f : A → B) (xs ys : List A) → map f (xs ++ ys) 
 map_joined f [] ys = refl
 map_joined f (x ∷ xs) ys = ap (λ l. f x ∷ l) (map_joined f xs ys)
 
-line_same : (m : Course) → line_at m ≡ line_under m
+pub line_same : (m : Course) → line_at m ≡ line_under m
 line_same m = by m.under refl
   where
     by : (o : Option Under) → m.under ≡ o → line_at m ≡ line_under m
     by None e = rw (line_at, e) refl
     by (Some u) e = rw (line_at, e) refl
 
-core_so_far : (s : Setup) (c : ℕ) (a : AtCore) → IsFed s.terms s.last (handler_of s c) a → LawfulSoFar (run_so_far s c a) (line_under a.course)
-core_so_far s c a fed =
+pub book_so_far : (s : Setup) (c : ℕ) (a : AtCore) → IsFed s.terms s.last (handler_of s c) a → LawfulSoFar (run_so_far s c a) (line_under a.course)
+book_so_far s c a fed =
     let h = lawful_so_far s.terms s.last (handler_of s c) a.course fed.sound in
     let same = subst (λ (o : Option Line). LawfulSoFar (run_at s.terms s.last (handler_of s c) a.course) o) (line_same a.course) h in
     record {
@@ -89,12 +89,6 @@ core_so_far s c a fed =
       looks = same.looks;
       frees = same.frees;
     }
-
-pub so_far : (s : Setup) (m : Moment) → Holds s m → BooksSoFar s m × BudgetSoFar s m
-so_far s m h = (
-  each_numbered _ m.cores 0 (λ c a there j same. let here : j ≡ c = omega arith in subst (λ (k : ℕ). LawfulSoFar (run_so_far s k a) (line_under a.course)) (sym here) (core_so_far s c a (h.fed c a there))),
-  record { once = h.balanced.once; found = h.balanced.found; fair = h.balanced.fair; within = h.balanced.within },
-)
 
 -- At the end
 
@@ -192,7 +186,7 @@ module _ (s : Setup) (cores : ℕ) where
       replies = at_core (λ c a. Each (IsReply (handler_at s.handlers (c % length s.handlers))) a.answers) (λ c. tt);
       hands = λ w x h e has. let same : x.hand ≡ None = ap (λ (y : AtWorker). y.hand) (replicated (length s.handlers) opening_worker w x e) in absurd cc;
     };
-    fed = at_core (λ c a. IsFed s.terms s.last (handler_of s c) a) (λ c. record { sound = begins_soundly s.terms s.last (handler_of s c); inputs = tt });
+    fed = at_core (λ c a. IsFed s.terms s.last (handler_of s c) a) (λ c. record { sound = begins_soundly s.terms s.last (handler_of s c); inputs = tt; until = omega arith });
     counted = record {
       counts = λ w x e c a f.
           let one : IsCountedAt s w opening_worker c opening_core = zeros ((c % length s.handlers) == w) in
@@ -209,6 +203,7 @@ module _ (s : Setup) (cores : ℕ) where
     freed = record {
       cores = at_core (λ c a. AreFreed s.terms a) (λ c. record { lines = tt; settled = tt; answers = tt });
       hands = λ w x hand e has. let same : x.hand ≡ None = ap (λ (y : AtWorker). y.hand) (replicated (length s.handlers) opening_worker w x e) in absurd cc;
+      known = λ w x hand e has. let same : x.hand ≡ None = ap (λ (y : AtWorker). y.hand) (replicated (length s.handlers) opening_worker w x e) in absurd cc;
     };
     served = λ w x e. subst (RisesAlong (map answers_at first.cores) 0) (sym (replicated (length s.handlers) opening_worker w x e)) (record { rises = tt; below = tt });
   }
@@ -239,7 +234,7 @@ module _ (s : Setup) (m n : Moment) (c : ℕ) (input : Input) (offer : Offers c 
       replies = changes (λ d a. Each (IsReply (handler_at s.handlers (d % length s.handlers))) a.answers) (h.order.replies c offer.at offer.is_it) (λ d a there. h.order.replies d a there);
       hands = λ w x hand there has. h.order.hands w x hand (subst (λ (l : List AtWorker). slice_get l w ≡ Some x) offer.workers there) has;
     };
-    fed = changes (λ d a. IsFed s.terms s.last (handler_of s d) a) (record { sound = (h.fed c offer.at offer.is_it).sound; inputs = fits offer.at offer.is_it }) (λ d a there. h.fed d a there);
+    fed = changes (λ d a. IsFed s.terms s.last (handler_of s d) a) (record { sound = (h.fed c offer.at offer.is_it).sound; inputs = fits offer.at offer.is_it; until = (h.fed c offer.at offer.is_it).until }) (λ d a there. h.fed d a there);
     counted = record {
       counts = λ w x e. let was = subst (λ (l : List AtWorker). slice_get l w ≡ Some x) offer.workers e in
           changes (λ d a. IsCountedAt s w x d a) (h.counted.counts w x was c offer.at offer.is_it) (λ d a there. h.counted.counts w x was d a there);
@@ -257,6 +252,10 @@ module _ (s : Setup) (m n : Moment) (c : ℕ) (input : Input) (offer : Offers c 
       cores = changes (λ d a. AreFreed s.terms a)
           (let was = h.freed.cores c offer.at offer.is_it in record { lines = was.lines; settled = was.settled; answers = was.answers }) (λ d a there. h.freed.cores d a there);
       hands = λ w x hand there has. h.freed.hands w x hand (subst (λ (l : List AtWorker). slice_get l w ≡ Some x) offer.workers there) has;
+      known = λ w x hand there has.
+          let size : length n.cores ≡ length m.cores = ap (length {A = AtCore}) offer.cores ∙ length-set m.cores c later in
+          let less = h.freed.known w x hand (subst (λ (l : List AtWorker). slice_get l w ≡ Some x) offer.workers there) has in
+          omega (arith, less, size);
     };
     served = λ w x there.
         subst (λ (p : Pair). RisesAlong (map answers_at n.cores) p.stamp x) (sym offer.pair)

@@ -14,6 +14,7 @@ pub mod RiseSteps
 pub mod FreeSteps
 pub mod ServedSteps
 pub mod HoldLaws
+pub mod SoFarLaws
 pub mod RowLemmas
 pub mod ByteLaws
 pub mod ShownLaws

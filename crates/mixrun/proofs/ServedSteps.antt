@@ -184,21 +184,21 @@ one_done (Answer event advice frees) = refl
 one_done (Time at looks frees) = refl
 one_done (End at reason looks frees) = refl
 
-answers_count : (t : Terms) (a : AtCore) → length (answers_at a) ≡ answered_by t a.course + length a.answers
-answers_count t a = by a.course.under refl
+pub done_count : (t : Terms) (m : Course) → length (Done m) ≡ answered_by t m
+done_count t m = by m.under refl
   where
-    of_parts : length (answers_at a) ≡ length (Done a.course) + length a.answers
-    of_parts = omega (arith, length-append (Done a.course) (map frees_done a.answers), length-map a.answers frees_done)
-
-    by : (o : Option Under) → a.course.under ≡ o → length (answers_at a) ≡ answered_by t a.course + length a.answers
+    by : (o : Option Under) → m.under ≡ o → length (Done m) ≡ answered_by t m
     by None e =
-        let none : answers_under a.course.under ≡ 0 = ap answers_under e in
-        let rest = ap length (rest_done t a.course e) in
-        omega (arith, of_parts, none, rest, counted_along t idle_core a.course.lines)
+        let none : answers_under m.under ≡ 0 = ap answers_under e in
+        let rest = ap length (rest_done t m e) in
+        omega (arith, none, rest, counted_along t idle_core m.lines)
     by (Some u) e =
-        let here : answers_under a.course.under ≡ cond (is_answer u.line.act) 1 0 = ap answers_under e in
-        let more = ap length (under_done t a.course u e) in
-        omega (arith, of_parts, here, more, length-append (frees_of_answers a.course.lines) (done_of u.line.act), one_done u.line.act, counted_along t idle_core a.course.lines)
+        let here : answers_under m.under ≡ cond (is_answer u.line.act) 1 0 = ap answers_under e in
+        let more = ap length (under_done t m u e) in
+        omega (arith, here, more, length-append (frees_of_answers m.lines) (done_of u.line.act), one_done u.line.act, counted_along t idle_core m.lines)
+
+pub answers_count : (t : Terms) (a : AtCore) → length (answers_at a) ≡ answered_by t a.course + length a.answers
+answers_count t a = omega (arith, length-append (Done a.course) (map frees_done a.answers), length-map a.answers frees_done, done_count t a.course)
 
 -- Along a list with one more
 
@@ -323,7 +323,7 @@ either_none : (b : Bool) (frees : List Free) → frees ≡ [] → cond b [] free
 either_none true frees e = sym e
 either_none false frees e = refl
 
-all_done : (r : Reply) → IsFreedReply r → frees_done r ≡ r.frees
+pub all_done : (r : Reply) → IsFreedReply r → frees_done r ≡ r.frees
 all_done r h = by r.given.event refl
   where
     of_chunk : (charges : List Charge) (b : Bool) → AreAboveCharges (cond b [] charges) r.frees → cond b [] r.frees ≡ r.frees

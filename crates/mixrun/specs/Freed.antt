@@ -1,6 +1,6 @@
 -- What the cores and the workers gave back, at every moment: each free is above its charge, and those of an entry, of an answer
 -- and of a hand rise.
-use Rattle.std.specs.Prelude.{◌≡◌, ⊤, ℕ, ◌≤◌, false, List, length, Option, Some, None, slice_get}
+use Rattle.std.specs.Prelude.{◌≡◌, ⊤, ℕ, ◌<◌, ◌≤◌, false, List, length, Option, Some, None, slice_get}
 use Rattle.prio_budget.specs.declared.free.Free.{Free}
 use Rattle.streamdefs.specs.Lists.{Each}
 use Rattle.streamdefs.specs.Reorder.{Charge}
@@ -42,7 +42,8 @@ pub record AreFreed (t : Terms) (a : AtCore) : Type 0 where
   pub settled : IsSettledUnder t a.course a.course.under
   pub answers : Each IsFreedReply a.answers
 
--- those of each core and of each worker's hand
+-- those of each core and of each worker's hand, whose event is that of a core that is there
 pub record FreesRising (s : Setup) (m : Moment) : Type 0 where
   pub cores : (c : ℕ) (a : AtCore) → slice_get m.cores c ≡ Some a → AreFreed s.terms a
   pub hands : (w : ℕ) (x : AtWorker) (h : InHand) → slice_get m.workers w ≡ Some x → x.hand ≡ Some h → IsFreedHand (handler_at s.handlers w) h
+  pub known : (w : ℕ) (x : AtWorker) (h : InHand) → slice_get m.workers w ≡ Some x → x.hand ≡ Some h → h.core < length m.cores

@@ -1,11 +1,12 @@
 -- What holds at every moment of a run, and what follows from it.
 use Rattle.std.specs.Prelude.{◌≡◌, ℕ, ◌++◌, [], ◌∷◌, length, Some, slice_get}
 use Rattle.streamdefs.specs.Order.{OneHistory}
+use Rattle.streamdefs.specs.RunSoFar.{LawfulRunSoFar}
 use Rattle.streamdefs.specs.Lawful.{Lawful}
 use Rattle.mixrun.specs.declared.actor.Actor.{Actor}
 use Rattle.mixrun.specs.Moment.{Setup, Input, AtCore, Moment}
 use Rattle.mixrun.specs.Steps.{Steps, Offers, opening}
-use Rattle.mixrun.specs.AtMoment.{BooksSoFar, BudgetSoFar}
+use Rattle.mixrun.specs.AtMoment.{so_far}
 use Rattle.mixrun.specs.Ledger.{AreMarks, IsBalanced}
 use Rattle.mixrun.specs.Queue.{InOrder}
 use Rattle.mixrun.specs.Freed.{FreesRising}
@@ -39,9 +40,9 @@ abbrev pub OffersKeep : Type 0
 OffersKeep = (s : Setup) (m n : Moment) (c : ℕ) (input : Input) → Offers c input m n
     → ((a : AtCore) → slice_get m.cores c ≡ Some a → AreLoadable s.last a.course.number a.course.clock (a.inputs ++ input ∷ [])) → Holds s m → Holds s n
 
--- so the books and the budget's history so far are lawful
+-- so its run is lawful so far: its books and lists, the history of its budget, and the order in the actors
 abbrev pub LawfulSoFarThen : Type 0
-LawfulSoFarThen = (s : Setup) (m : Moment) → Holds s m → BooksSoFar s m × BudgetSoFar s m
+LawfulSoFarThen = (s : Setup) (m : Moment) → Holds s m → LawfulRunSoFar (so_far s m)
 
 -- and once all tables are over and nothing is used, the journal is lawful, and its moves are one history of the budget
 abbrev pub LawfulAtEnd : Type 0
