@@ -1,9 +1,10 @@
 -- Turns and faults, by what the calls below answered.
-use Rattle.std.proofs.Common.{◌≡◌, ℕ, suc, ◌+◌, ◌≤◌, List, [], ◌∷◌, ◌++◌, take, length, refl, ap, ◌∙◌, sym, subst, arith, append-nil}
+use Rattle.std.proofs.Common.{◌≡◌, ℕ, suc, ◌+◌, ◌*◌, ◌<◌, ◌≤◌, List, [], ◌∷◌, ◌++◌, take, length, refl, ap, ◌∙◌, sym, subst, arith, append-nil}
 use Rattle.std.specs.Prelude.{Bool, true, false, not, Option, Some, None, Result, Ok, Err, IfOk, OnOk, OnErr}
 use Rattle.std.proofs.lemmas.Grind.{flat_map-append}
 use Rattle.std.proofs.lemmas.List.Concat.{flat_map-cons}
 use Rattle.prio_budget.specs.declared.free.Free.{Free}
+use Rattle.prio_budget.specs.History.{total}
 use Rattle.scap_world.specs.Contents.{extended, GainsFront}
 use Rattle.chunkpart.specs.ChunkParts.{ChunkParts}
 use Rattle.evring.specs.Advice.{no_advice}
@@ -20,8 +21,9 @@ use Rattle.workrun.specs.declared.work_fault.WorkFault.TheVariants as faults
 use Rattle.workrun.specs.declared.work_turn.WorkTurn.{WorkTurn}
 use Rattle.workrun.specs.declared.work_turn.WorkTurn.TheVariants as turns
 use Rattle.workrun.specs.AtWork.{Hand}
+use Rattle.workrun.specs.InWork.{things}
 use Rattle.workrun.specs.Outgoing.{charges_left}
-use Rattle.workrun.specs.Steps.{IsOut, IsReleasing, Turned, Worked}
+use Rattle.workrun.specs.Steps.{IsBack, IsOut, IsReleasing, Stayed, Turned, Worked}
 use Rattle.workrun.specs.Telling.{HasCause}
 use Rattle.workrun.proofs.StepLemmas.{gives_none, gives_one}
 use Rattle.workrun.proofs.TellingLemmas.{none_gained}
@@ -41,6 +43,9 @@ answer_turned {C} amount stamp core frees charges calm a ef ed en ec = record {
   frees_are = refl;
   pause = refl;
   charges_are = ec ∙ sym (append-nil (charges_of_all a.kept));
+  weight_is = λ by. (let e : total by charges ≡ total by (charges_of_all a.kept) + 0 = omega (arith, ap (total by) ec) in e);
+  left_is = let less : 0 < 1 + 0 + 2 * length charges = omega arith in less;
+  begun_is = refl;
 }
 
 turned_moved : {C : Type 0} (amount stamp : C → ℕ) (core : ℕ) (frees : List Free) (charges : List C) (calm : Bool) (work : Work C) (turn t : WorkTurn C) → Turned amount stamp core frees charges calm Nothing t → work ≡ Nothing → turn ≡ t
@@ -59,6 +64,45 @@ done_turned {C} amount stamp core advice frees kept charges true work turn ew ek
 done_turned {C} amount stamp core advice frees kept charges false work turn ew ek ec et ef =
     turned_moved amount stamp core frees charges false work turn (turns.Answer core (record { advice = no_advice; frees = frees; kept = kept; drained = true }))
     (answer_turned amount stamp core frees charges false (record { advice = no_advice; frees = frees; kept = kept; drained = true }) refl refl (λ (e : false ≡ false). (refl, ek)) (ec ∙ sym (ap charges_of_all ek))) ew (ef refl)
+
+-- a charge goes out
+pub given_turned : {C : Type 0} (amount stamp : C → ℕ) (core : ℕ) (frees : List Free) (charges : List C) (calm : Bool) (r : Release C) (c : C) (work : Work C) (result : Result (WorkTurn C) WorkFault) → charges ≡ c ∷ charges_left r.left → r.core ≡ core → r.frees.items ≡ frees
+    → IfOk result (λ turn. turn ≡ turns.Free c) → OnOk result (IsOut (amount c) (stamp c) r work) → IfOk result (Turned amount stamp core frees charges calm work)
+given_turned amount stamp core frees charges calm r c work (Err e) el ec ef et o = tt
+given_turned amount stamp core frees charges calm r c Nothing (Ok turn) el ec ef et o = absurd o
+given_turned amount stamp core frees charges calm r c (Loaded core' event) (Ok turn) el ec ef et o = absurd o
+given_turned amount stamp core frees charges calm r c (Releases r') (Ok turn) el ec ef et o = absurd o
+given_turned {C} amount stamp core frees charges calm r c (Waits b g r') (Ok turn) el ec ef et o =
+    let left : charges ≡ c ∷ charges_left r'.left = el ∙ ap (λ (x : Outgoing C). c ∷ charges_left x) (sym o.5) in
+    let bytes : b ≡ amount c = o.0 in
+    let granted : g ≡ stamp c = o.1 in
+    subst (λ (t : WorkTurn C). Turned amount stamp core frees charges calm (Waits b g r') t) (sym et) (record {
+      fits = tt;
+      core_is = ap Some (o.2 ∙ ec);
+      frees_are = o.4 ∙ ef;
+      pause = cc;
+      charges_are = left;
+      weight_is = λ by. (let e : total by charges ≡ by c + 0 + total by (charges_left r'.left) = omega (arith, ap (total by) left) in e);
+      left_is = let less : 1 + 1 + 2 * length (charges_left r'.left) < 1 + 0 + 2 * length charges = omega (arith, ap (λ (l : List C). length l) left) in less;
+      begun_is = refl;
+    })
+
+-- a charge comes back before the others
+pub back_stayed : {T C : Type 0} (core : ℕ) (frees : List Free) (charges : List C) (r : Release C) (c : C) (work : Work C) (result : Result T WorkFault) → charges ≡ c ∷ charges_left r.left → r.core ≡ core → r.frees.items ≡ frees
+    → OnErr result (IsBack c r work) → OnErr result (Stayed core frees charges work)
+back_stayed core frees charges r c work (Ok turn) el ec ef b = tt
+back_stayed core frees charges r c Nothing (Err e) el ec ef b = absurd b
+back_stayed core frees charges r c (Loaded core' event) (Err e) el ec ef b = absurd b
+back_stayed core frees charges r c (Waits bytes granted r') (Err e) el ec ef b = absurd b
+back_stayed {T} {C} core frees charges r c (Releases r') (Err e) el ec ef b =
+    let all : charges_left r'.left ≡ charges = b.2 ∙ sym el in
+    record {
+      core_is = ap Some (b.0 ∙ ec);
+      frees_are = b.1 ∙ ef;
+      pause = refl;
+      charges_are = all;
+      left_is = ap (λ (l : List C). things (length l) 0) all;
+    }
 
 -- the answer that keeps the chunks
 pub kept_turned : {C : Type 0} (amount stamp : C → ℕ) (core : ℕ) (advice : Advice) (frees : List Free) (before kept : List (ChunkParts C)) (chunk : ChunkParts C) (work : Work C) (turn : WorkTurn C) → work ≡ Nothing → frees ≡ [] → kept ≡ before ++ chunk ∷ []

@@ -1,5 +1,5 @@
 -- What a worker has in hand, what is due for it, and what it says next.
-use Rattle.std.specs.Prelude.{◌≡◌, ⊤, ℕ, false, cond, List, [], ◌∷◌, ◌++◌, map, length, Option, Some, None, option_map, slice_get, unwrap_or}
+use Rattle.std.specs.Prelude.{◌≡◌, ◌<◌, ⊤, ℕ, Bool, true, false, cond, List, [], ◌∷◌, ◌++◌, map, length, Option, Some, None, option_map, slice_get, unwrap_or}
 use Rattle.prio_budget.specs.declared.free.Free.{Free}
 use Rattle.chunkpart.specs.ChunkParts.{ChunkParts}
 use Rattle.evring.specs.declared.advice.Advice.{Advice}
@@ -135,3 +135,13 @@ core_behind core _ = core
 abbrev pub frees_behind : {C : Type 0} → List Free → WorkTurn C → List Free
 frees_behind frees (turns.Answer core answer) = []
 frees_behind frees _ = frees
+
+-- charges go out for the event in hand behind a turn that gives one out
+abbrev pub begun_behind : {C : Type 0} → WorkTurn C → Bool
+begun_behind (turns.Free charge) = true
+begun_behind _ = false
+
+-- a turn for an event leaves less to do for it
+abbrev pub Lowers : {C : Type 0} → (old new : ℕ) → WorkTurn C → Type 0
+Lowers old new turns.Ready = new ≡ old
+Lowers old new _ = new < old

@@ -1,5 +1,5 @@
 -- What contracts see of a worker.
-use Rattle.std.specs.Prelude.{◌≡◌, ℕ, ◌+◌, Bool, true, cond, is_some, List, [], ◌∷◌, ◌++◌, Option, Some, None}
+use Rattle.std.specs.Prelude.{◌≡◌, ℕ, Bool, true, cond, is_some, List, [], ◌∷◌, ◌++◌, Option, Some, None}
 use Rattle.prio_budget.specs.declared.free.Free.{Free}
 use Rattle.prio_budget.specs.History.{total}
 use Rattle.streamdefs.specs.Lawful.{Handler}
@@ -9,9 +9,8 @@ use Rattle.handler.specs.declared.handler.Handler.{Ghosts as HandlerGhosts}
 use Rattle.workrun.specs.declared.worker.Worker.{Worker}
 use Rattle.workrun.specs.AtWork.{AtWork, Hand}
 use Rattle.workrun.specs.Circle.{count_of, round_from}
-use Rattle.workrun.specs.InWork.{charges_of_work, core_in, frees_in, pause_in}
+use Rattle.workrun.specs.InWork.{charges_of_work, core_in, frees_in, has_begun, left_in, pause_in}
 use Rattle.workrun.specs.Pause.{Pause}
-use Rattle.workrun.specs.Pause.Pause.{Still, Freeing}
 use Rattle.workrun.specs.Steps.{HasInHand}
 
 module _ {H K C : Type 0} {h : HandlerGhosts H} {k : SinkGhosts K} {c : ChargeGhosts C} where
@@ -58,13 +57,13 @@ module _ {H K C : Type 0} {h : HandlerGhosts H} {k : SinkGhosts K} {c : ChargeGh
   abbrev pub weight : (C → ℕ) → Worker H K C h k c → ℕ
   weight by w = total by (charges_of_work w.work)
 
-  -- what is left to do for the event in hand: a charge to be released is one thing
+  -- its charges go out: the first turn for it is done
+  abbrev pub begun : Worker H K C h k c → Bool
+  begun w = has_begun w.work
+
+  -- what is left to do for it: to give each charge out, to release it, and to answer
   abbrev pub work_left : Worker H K C h k c → ℕ
-  work_left w = total (λ charge. 1) (charges_of_work w.work) + awaited (pause_in w.work)
-    where
-      awaited : Pause → ℕ
-      awaited Still = 0
-      awaited (Freeing bytes stamp) = 1
+  work_left w = left_in w.work
 
 -- the core of the event in hand, where the handler was told of it
 abbrev pub told_of : {C : Type 0} → Option (Hand C) → List ℕ

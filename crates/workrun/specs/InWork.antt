@@ -1,5 +1,5 @@
 -- What is seen of what a worker has in hand, in every mode.
-use Rattle.std.specs.Prelude.{◌≡◌, ⊤, ℕ, ◌-◌, Bool, true, false, not, List, [], Option, Some, None, vec_len}
+use Rattle.std.specs.Prelude.{◌≡◌, ⊤, ℕ, ◌+◌, ◌*◌, ◌-◌, Bool, true, false, not, List, [], length, Option, Some, None, vec_len}
 use Rattle.std.specs.Vec.{vec_capacity}
 use Rattle.prio_budget.specs.declared.free.Free.{Free}
 use Rattle.evring.specs.Advice.{no_advice}
@@ -37,6 +37,23 @@ charges_of_work Nothing = []
 charges_of_work (Loaded core event) = charges_in event
 charges_of_work (Releases release) = charges_left release.left
 charges_of_work (Waits bytes stamp release) = charges_left release.left
+
+-- its charges go out: the first turn for it is done
+abbrev pub has_begun : {C : Type 0} → Work C → Bool
+has_begun (Releases release) = true
+has_begun (Waits bytes stamp release) = true
+has_begun _ = false
+
+-- what is left to do for an event of which so many charges are here and so many out: to give each of them out, to release it,
+-- and to answer
+abbrev pub things : (here out : ℕ) → ℕ
+things here out = 1 + out + 2 * here
+
+abbrev pub left_in : {C : Type 0} → Work C → ℕ
+left_in Nothing = 0
+left_in (Loaded core event) = things (length (charges_in event)) 0
+left_in (Releases release) = things (length (charges_left release.left)) 0
+left_in (Waits bytes stamp release) = things (length (charges_left release.left)) 1
 
 -- how many releases can be put down without memory, where one is awaited
 abbrev pub free_places : {C : Type 0} → Work C → ℕ

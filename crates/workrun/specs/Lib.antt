@@ -2,6 +2,7 @@ pub mod AtWork
 pub mod Boundary
 pub mod Circle
 pub mod InWork
+pub mod Meant
 pub mod Outgoing
 pub mod Pause
 pub mod Steps

@@ -1,6 +1,7 @@
 -- What a worker does with the event in hand, by what it keeps of it.
-use Rattle.std.specs.Prelude.{◌≡◌, ⊤, ℕ, Bool, false, List, [], ◌∷◌, ◌++◌, map, take, drop, length, Option, Some, None}
+use Rattle.std.specs.Prelude.{◌≡◌, ⊤, ℕ, ◌+◌, Bool, false, List, [], ◌∷◌, ◌++◌, map, take, drop, length, Option, Some, None}
 use Rattle.prio_budget.specs.declared.free.Free.{Free}
+use Rattle.prio_budget.specs.History.{total}
 use Rattle.scap_world.specs.Contents.{extended}
 use Rattle.evring.specs.declared.event.Event.{Event}
 use Rattle.evring.specs.Charges.{charges_in}
@@ -12,8 +13,8 @@ use Rattle.workrun.specs.declared.scribe.Scribe.{Scribe}
 use Rattle.workrun.specs.declared.work.Work.{Work}
 use Rattle.workrun.specs.declared.work.Work.TheVariants.{Nothing, Loaded, Releases, Waits}
 use Rattle.workrun.specs.declared.work_turn.WorkTurn.{WorkTurn}
-use Rattle.workrun.specs.AtWork.{Hand, IsWork, charges_out, core_behind, frees_behind, hand_behind, pause_of, stated_of, taken}
-use Rattle.workrun.specs.InWork.{FitsHand, charges_of_work, core_in, frees_in, pause_in}
+use Rattle.workrun.specs.AtWork.{Hand, IsWork, Lowers, begun_behind, charges_out, core_behind, frees_behind, hand_behind, pause_of, stated_of, taken}
+use Rattle.workrun.specs.InWork.{FitsHand, charges_of_work, core_in, frees_in, has_begun, left_in, pause_in, things}
 use Rattle.workrun.specs.Outgoing.{charges_left}
 use Rattle.workrun.specs.Pause.Pause.{Still}
 
@@ -26,6 +27,9 @@ pub record Turned {C : Type 0} (amount stamp : C → ℕ) (core : ℕ) (frees : 
   pub frees_are : frees_in work ≡ frees_behind frees turn
   pub pause : pause_in work ≡ pause_of amount stamp turn
   pub charges_are : charges ≡ charges_out turn ++ charges_of_work work
+  pub weight_is : (by : C → ℕ) → total by charges ≡ total by (charges_out turn) + total by (charges_of_work work)
+  pub left_is : Lowers (things (length charges) 0) (left_in work) turn
+  pub begun_is : has_begun work ≡ begun_behind turn
 
 -- what stands behind a fault: the event is in hand as it was
 pub record Stayed {C : Type 0} (core : ℕ) (frees : List Free) (charges : List C) (work : Work C) : Type 0 where
@@ -33,6 +37,7 @@ pub record Stayed {C : Type 0} (core : ℕ) (frees : List Free) (charges : List 
   pub frees_are : frees_in work ≡ frees
   pub pause : pause_in work ≡ Still
   pub charges_are : charges_of_work work ≡ charges
+  pub left_is : left_in work ≡ things (length charges) 0
 
 -- a charge is out of an event's, with all else as it was
 abbrev pub IsOut : {C : Type 0} → (bytes granted : ℕ) → Release C → Work C → Type 0

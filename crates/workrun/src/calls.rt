@@ -1,13 +1,13 @@
-ghost use Rattle.std.specs.Prelude.{◌≡◌, ◌+◌, ◌<◌, ◌≤◌, ◌++◌, ◌∷◌, ◌⊎◌, ℕ, [], Some, None, IfOk, OnOk, OnErr, IsOk, true, false, slice_get};
+ghost use Rattle.std.specs.Prelude.{◌≡◌, ◌+◌, ◌<◌, ◌≤◌, ◌++◌, ◌∷◌, ◌⊎◌, ℕ, [], Some, None, IfOk, OnOk, OnErr, IsOk, true, false, length, slice_get};
 ghost use Rattle.scap_world.specs.Contents.{extended, GainsFront};
 ghost use Rattle.evring.specs.Charges.{charges_in};
 ghost use Rattle.prio_budget.specs.History.{total};
 ghost use Rattle.workrun.specs.Circle.{IsOwn, count_of, place_of, round_from};
 ghost use Rattle.workrun.specs.Pause.Pause.{Still, Freeing};
-ghost use Rattle.workrun.specs.AtWork.{AtWork, IsWork, behind, charges_out, core_behind, frees_behind, freed, line_due, pause_of, taken};
-ghost use Rattle.workrun.specs.InWork.{FitsHand};
+ghost use Rattle.workrun.specs.AtWork.{AtWork, IsWork, Lowers, begun_behind, behind, charges_out, core_behind, frees_behind, freed, line_due, pause_of, taken};
+ghost use Rattle.workrun.specs.InWork.{FitsHand, things};
 ghost use Rattle.workrun.specs.Telling.{HasCause};
-ghost use Rattle.workrun.specs.Boundary.{Stands, calm_of, charges_in_hand, core_in_hand, cores_of, first_of, frees_in_hand, handler_of, order_of, pause, sink_of, step_of, weight, work_left};
+ghost use Rattle.workrun.specs.Boundary.{Stands, begun, calm_of, charges_in_hand, core_in_hand, cores_of, first_of, frees_in_hand, handler_of, order_of, pause, sink_of, step_of, weight, work_left};
 
 use crate::circle::Circle;
 use crate::scribe::Scribe;
@@ -39,6 +39,7 @@ impl<H: Handler, K: Sink, C: Charge> Worker<H, K, C> {
         ensures cores { (first_of result ≡ first) × (step_of result ≡ step) × (cores_of result ≡ cores) }
         ensures order { order_of result ≡ round_from first step cores 0 }
         ensures empty { (core_in_hand result ≡ None) × (frees_in_hand result ≡ []) × (charges_in_hand result ≡ []) }
+        ensures nothing { (work_left result ≡ 0) × (begun result ≡ false) }
         ensures still { pause result ≡ Still }
         ensures calm { calm_of result ≡ true }
         ensures stands { Stands C.amount C.stamp H.advice (record { hand = None; served = [] }) result }
@@ -62,11 +63,15 @@ impl<H: Handler, K: Sink, C: Charge> Worker<H, K, C> {
     }
 
     /// Takes an event of a core into the hand.
+    #[tactic(auto, using(crate::proofs::EmptyLemmas::nothing_weighs))]
     pub fn load(&mut self, core: u16, event: Event<C>)
         requires empty { core_in_hand self.old ≡ None }
         ensures hand { core_in_hand self.new ≡ Some core }
         ensures frees { frees_in_hand self.new ≡ [] }
         ensures charges { charges_in_hand self.new ≡ charges_in event }
+        ensures weight { (by : C → ℕ) → weight by self.new ≡ weight by self.old + total by (charges_in event) }
+        ensures left { work_left self.new ≡ things (length (charges_in event)) 0 }
+        ensures begun { begun self.new ≡ false }
         ensures still { pause self.new ≡ Still }
         ensures calm { calm_of self.new ≡ calm_of self.old }
         ensures same { (handler_of self.new ≡ handler_of self.old) × (sink_of self.new ≡ sink_of self.old) }
@@ -81,6 +86,7 @@ impl<H: Handler, K: Sink, C: Charge> Worker<H, K, C> {
     }
 
     /// What is to be done next. At a fault the event stays in hand, and the worker is in drain mode.
+    #[tactic(auto, using(crate::proofs::EmptyLemmas::nothing_left))]
     pub fn next(&mut self) -> Result<WorkTurn<C>, WorkFault>
         requires still { pause self.old ≡ Still }
 
@@ -98,7 +104,13 @@ impl<H: Handler, K: Sink, C: Charge> Worker<H, K, C> {
         ensures frees { IfOk result (λ turn. frees_in_hand self.new ≡ frees_behind (frees_in_hand self.old) turn) }
         ensures pause { IfOk result (λ turn. pause self.new ≡ pause_of C.amount C.stamp turn) }
         ensures charges { IfOk result (λ turn. charges_in_hand self.old ≡ charges_out turn ++ charges_in_hand self.new) }
+        ensures weight { (by : C → ℕ) → IfOk result (λ turn. weight by self.old ≡ total by (charges_out turn) + weight by self.new) }
+        ensures left { IfOk result (Lowers (work_left self.old) (work_left self.new)) }
+        ensures begun { IfOk result (λ turn. begun self.new ≡ begun_behind turn) }
+        ensures empty { core_in_hand self.new ≡ None → (frees_in_hand self.new ≡ []) × (charges_in_hand self.new ≡ []) × (work_left self.new ≡ 0) }
         ensures kept { OnErr result ((core_in_hand self.new ≡ core_in_hand self.old) × (frees_in_hand self.new ≡ frees_in_hand self.old) × (pause self.new ≡ Still) × (charges_in_hand self.new ≡ charges_in_hand self.old)) }
+        ensures kept_left { OnErr result (work_left self.new ≡ work_left self.old) }
+
         ensures calm { OnOk result (calm_of self.new ≡ calm_of self.old) }
         ensures fault { OnErr result (calm_of self.new ≡ false) }
         ensures drains { calm_of self.old ≡ false → IsOk result × (sink_of self.new ≡ sink_of self.old) }
@@ -121,6 +133,9 @@ impl<H: Handler, K: Sink, C: Charge> Worker<H, K, C> {
         ensures still { pause self.new ≡ Still }
         ensures hand { core_in_hand self.new ≡ core_in_hand self.old }
         ensures charges { charges_in_hand self.new ≡ charges_in_hand self.old }
+        ensures weight { (by : C → ℕ) → weight by self.new ≡ weight by self.old }
+        ensures left { work_left self.new + 1 ≡ work_left self.old }
+        ensures begun { begun self.new ≡ begun self.old }
         ensures frees { calm_of self.old ≡ true → frees_in_hand self.new ≡ frees_in_hand self.old ++ free ∷ [] }
         ensures drained { (frees_in_hand self.new ≡ frees_in_hand self.old ++ free ∷ []) ⊎ (frees_in_hand self.new ≡ frees_in_hand self.old) }
         ensures calm { calm_of self.new ≡ calm_of self.old }

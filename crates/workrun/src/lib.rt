@@ -6,12 +6,11 @@
 
 mod calls;
 mod circle;
+pub mod laws;
 mod outgoing;
 mod release;
 mod scribe;
 mod serving;
-#[cfg(test)]
-mod tests;
 mod work;
 mod work_fault;
 mod work_turn;

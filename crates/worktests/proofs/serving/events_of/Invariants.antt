@@ -1,5 +1,5 @@
 use Rattle.std.proofs.Common.{◌≤◌}
-use Rattle.workrun.proofs.tests.events_of.Given as goal
+use Rattle.worktests.proofs.serving.events_of.Given as goal
 
 abbrev pub invariant-loop-piece : goal.invariant-loop-piece
 invariant-loop-piece l = 4096 ≤ l.budget.limit

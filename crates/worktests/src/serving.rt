@@ -2,7 +2,6 @@ ghost use Rattle.std.specs.Prelude.{◌≡◌, ◌<◌, ◌≤◌, None, IfOk, O
 ghost use Rattle.workrun.specs.Boundary.{core_in_hand, pause};
 ghost use Rattle.workrun.specs.Pause.Pause.{Still};
 
-use crate::{WorkFault, WorkTurn, Worker};
 use chunkpart::Chunk;
 use evring::{Advice, Answer, Event, Kept, Reason, Way};
 use handler::{ChunkView, Handler};
@@ -15,6 +14,7 @@ use std::mem;
 use std::test::Fail;
 use streamkey::{Addr, End, Key, Proto, Toward};
 use textout::{put_count, put_text};
+use workrun::{WorkFault, WorkTurn, Worker};
 
 /// Keeps each chunk that starts below a position, wants nothing else, and counts how often it is asked.
 #[derive(Drop)]
@@ -287,13 +287,16 @@ fn with_kept(event: Event<PlainCharge>, back: Kept<PlainCharge>) -> Event<PlainC
     }
 }
 
-/// What came of serving: the answers' words and releases, the chunks that came back last, and the write faults.
+/// What came of serving: the answers' words and releases, how many of them are of drain mode, the chunks that came back last,
+/// the write faults, and how often there was no memory.
 #[derive(Drop)]
 struct Heard {
     alloc: Global,
     answers: Vec<u8>,
+    drained: u32,
     kept: Kept<PlainCharge>,
     faults: u32,
+    shortages: u32,
 }
 
 fn hear(heard: &mut Heard, answer: Answer<PlainCharge>) -> Result<(), Fail> {
@@ -308,6 +311,9 @@ fn hear(heard: &mut Heard, answer: Answer<PlainCharge>) -> Result<(), Fail> {
         put_count(&mut heard.answers, "@", u64::from(free.stamp))?;
     }
     put_text(&mut heard.answers, "\n")?;
+    if answer.drained {
+        heard.drained = heard.drained.saturating_add(1);
+    }
     heard.kept = answer.kept;
     Ok(())
 }
@@ -319,6 +325,13 @@ fn release(budget: &mut PlainBudget, charge: PlainCharge) -> Result<Free, Fail>
         return Err("more bytes than are in use".into());
     }
     Ok(budget.release(charge))
+}
+
+fn note(heard: &mut Heard, fault: WorkFault) {
+    match fault {
+        WorkFault::Memory => heard.shortages = heard.shortages.saturating_add(1),
+        WorkFault::Write => heard.faults = heard.faults.saturating_add(1),
+    }
 }
 
 /// One turn of a worker. True: it was the answer.
@@ -338,9 +351,8 @@ fn turn(worker: &mut Tried, budget: &mut PlainBudget, heard: &mut Heard) -> Resu
             Ok(true)
         }
         Ok(WorkTurn::Ready) => Err("nothing is in hand".into()),
-        Err(WorkFault::Memory) => Err("no memory".into()),
-        Err(WorkFault::Write) => {
-            heard.faults = heard.faults.saturating_add(1);
+        Err(fault) => {
+            note(heard, fault);
             Ok(false)
         }
     }
@@ -371,8 +383,10 @@ fn serve(
 struct Outcome {
     lines: Vec<u8>,
     answers: Vec<u8>,
+    drained: u32,
     served: WorkList,
     faults: u32,
+    shortages: u32,
     asked: u32,
     used: u32,
 }
@@ -395,8 +409,10 @@ fn outcome_of(alloc: Global, row: Row, most: usize, nth: u32) -> Result<Outcome,
     let mut heard = Heard {
         alloc,
         answers: Vec::new(alloc),
+        drained: 0,
         kept: Kept::none(alloc),
         faults: 0,
+        shortages: 0,
     };
     'events: for event in events_of(alloc, &mut budget, row)? {
         serve(&mut worker, &mut budget, &mut heard, event)?;
@@ -407,8 +423,10 @@ fn outcome_of(alloc: Global, row: Row, most: usize, nth: u32) -> Result<Outcome,
     Ok(Outcome {
         lines,
         answers: heard.answers,
+        drained: heard.drained,
         served,
         faults: heard.faults,
+        shortages: heard.shortages,
         asked: asked.get(),
         used: budget.used(),
     })
@@ -421,8 +439,24 @@ fn events_are_served(rt: HostRuntime) -> Result<(), Fail> {
         assert_eq!(rt; outcome.lines.as_slice(), row.lines.as_bytes());
         assert_eq!(rt; outcome.answers.as_slice(), row.answers.as_bytes());
         assert_eq!(rt; outcome.served.runs(), [(0, row.served)].as_slice());
-        assert_eq!(rt; (outcome.faults, outcome.used), (0, 0));
+        assert_eq!(rt;
+            (outcome.faults, outcome.shortages, outcome.used),
+            (0, 0, 0)
+        );
     }
+    Ok(())
+}
+
+/// Where there is no memory for an event its handler isn't asked, unless it was the sink that had none. What comes behind it is
+/// drained, and every charge is released. Here there is memory; `rt try --test --fail-alloc N` refuses the Nth request for some.
+#[test]
+fn want_of_memory_drains(rt: HostRuntime) -> Result<(), Fail> {
+    let outcome = outcome_of(rt.alloc(), KEEP, usize::MAX, 9)?;
+    let lines = KEEP.lines.as_bytes();
+    assert!(rt; lines.starts_with(outcome.lines.as_slice()));
+    let told = outcome.asked.saturating_add(outcome.drained);
+    assert!(rt; 4 <= told && told <= 4 + outcome.shortages.min(1));
+    assert_eq!(rt; (outcome.faults, outcome.used), (0, 0));
     Ok(())
 }
 
