@@ -1,0 +1,10 @@
+pub mod WalkLemmas
+pub mod ShownLemmas
+pub mod SortLemmas
+pub mod PrefixLemmas
+pub mod TableLemmas
+pub mod ReplayLemmas
+pub mod HistoryLemmas
+pub mod LawLemmas
+pub mod SumLemmas
+pub mod LineLemmas

@@ -1,0 +1,7 @@
+pub mod Moves
+pub mod Table
+pub mod Replay
+pub mod Walk
+pub mod Rows
+pub mod Totals
+pub mod Laws
