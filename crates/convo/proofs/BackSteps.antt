@@ -1,40 +1,34 @@
 -- An answer comes back.
 use Rattle.evring.specs.Charges.{charges_of_all}
-use Rattle.std.proofs.Common.{rules, ◌≡◌, refl, sym, ◌∙◌, ap, subst, ℕ, zero, suc, ◌+◌, ◌-◌, ◌<◌, ◌≤◌, Bool, true, false, not, cond, List, [], ◌∷◌, ◌++◌, map, drop, length, length-append, Option, Some, None, is_none, arith, inl, inr}
-use Rattle.std.specs.Prelude.{◌&&◌, slice_get}
+use Rattle.std.proofs.Common.{◌≡◌, refl, sym, ◌∙◌, ap, subst, ℕ, zero, suc, Bool, true, false, not, cond, List, [], ◌∷◌, ◌++◌, map, drop, length, Option, Some, None, is_none, arith, inl}
+use Rattle.std.specs.Prelude.{◌&&◌}
 use Rattle.evring.specs.declared.way.Way.{Way}
 use Rattle.evring.specs.declared.way.Way.TheVariants.{Fore, Back}
 use Rattle.evring.specs.declared.advice.Advice.{Advice}
-use Rattle.evring.specs.declared.reason.Reason.{Reason}
 use Rattle.prio_budget.specs.declared.free.Free.{Free}
 use Rattle.cutclass.specs.declared.cut.Cut.{Cut}
 use Rattle.cutclass.specs.declared.cut.Cut.TheVariants.{At}
 use Rattle.chunkpart.specs.ChunkParts.{ChunkParts}
 use Rattle.streamdefs.specs.Both.{Both, of_way, with_way}
-use Rattle.streamdefs.specs.Lists.{is_empty, or_else}
+use Rattle.streamdefs.specs.Lists.{or_else}
 use Rattle.streamdefs.specs.Terms.{Terms}
 use Rattle.streamdefs.specs.Reorder.{Charge}
-use Rattle.streamdefs.specs.Pending.{Piece}
-use Rattle.streamdefs.specs.Direction.{Direction, Kind, gives_at}
-use Rattle.streamdefs.specs.Direction.Next.{Gives, Rests as Wants_nothing}
-use Rattle.streamdefs.specs.Convo.{Act, Convo as Made, Event as EventMade, Kept as KeptPiece, Delivery, is_live, after, answered_event, given_back, own_after, keep_after, kept_of, charges_of, events_in}
+use Rattle.streamdefs.specs.Convo.{Convo as Made, Event as EventMade, Kept as KeptPiece, Delivery, is_live, answered_event, given_back, own_after, keep_after, kept_of, charges_of}
 use Rattle.streamdefs.specs.Convo.Event.{New as NewMade, Chunk as ChunkMade, Ended as EndedMade}
 use Rattle.streamdefs.specs.Convo.Act.{Answer as AnswerAct}
-use Rattle.streamdefs.specs.Want.{want, next_move}
-use Rattle.flowdir.specs.Boundary.{Phase as DirPhase}
 use Rattle.convo.specs.Seen.{kept_for, IsWant}
 use Rattle.convo.specs.Going.{charges_going}
 use Rattle.convo.specs.Talk.{Talk, IsWantOf, IsOf, back_with, owed_for, talk_after}
-use Rattle.convo.specs.Standing.{IsResting, IsQuiet, half_of, own_of, with_half}
+use Rattle.convo.specs.Standing.{IsResting, half_of, own_of, with_half}
 use Rattle.convo.specs.Stands.{Stands, IsMoving}
-use Rattle.convo.specs.Advised.{IsAnswering, own_by, advised_by}
+use Rattle.convo.specs.Advised.{own_by, advised_by}
 use Rattle.convo.specs.declared.talk.Convo.{Convo}
 use Rattle.convo.specs.declared.stage.Stage.TheVariants as at
 use Rattle.convo.specs.declared.going.Going.{Going}
 use Rattle.convo.specs.declared.answered_event.AnsweredEvent.{AnsweredEvent}
 use Rattle.convo.specs.declared.answered_event.AnsweredEvent.TheVariants as answered
 use Rattle.convo.specs.declared.want.Want.{Want}
-use Rattle.convo.specs.declared.want.Want.TheVariants.{Ask, Free as FreeWant, Emit, Rest}
+use Rattle.convo.specs.declared.want.Want.TheVariants.{Free as FreeWant, Rest}
 use Rattle.convo.proofs.DefSteps.{want_gives, want_rests}
 use Rattle.convo.proofs.GoingSteps.{charges_all}
 use Rattle.convo.proofs.GivesSteps.{gives_head, gives_end, gives_in}
@@ -84,7 +78,7 @@ module _ {C : Type 0} (paid : C → Charge) (t : Terms) where
       subst (λ c. IsResting paid t (record x { stage = at.Resting }) (record { convo = c; owed = k.owed; sums = k2.sums })) (dead_after (is_live k.convo) live)
       (record {
         quiet = record {
-          plain = record { origin_is = r.quiet.plain.origin_is; own_is = r.quiet.plain.own_is; advised_is = r.quiet.plain.advised_is; clock_is = r.quiet.plain.clock_is; ended_is = r.quiet.plain.ended_is; owed_is = r.quiet.plain.owed_is };
+          plain = record { origin_is = r.quiet.plain.origin_is; own_is = r.quiet.plain.own_is; advised_is = r.quiet.plain.advised_is; clock_is = r.quiet.plain.clock_is; ended_is = r.quiet.plain.ended_is; owed_is = r.quiet.plain.owed_is; early = r.quiet.plain.early; settled = r.quiet.plain.settled };
           kept = r.quiet.kept;
           begun = r.quiet.begun;
           opens = r.quiet.opens;
@@ -120,7 +114,7 @@ module _ {C : Type 0} (paid : C → Charge) (t : Terms) where
       subst (λ c. IsResting paid t y (record { convo = c; owed = k.owed; sums = k2.sums })) (live_after (is_live k.convo) live)
       (record {
         quiet = record {
-          plain = record { origin_is = r.quiet.plain.origin_is; own_is = own_is; advised_is = advised_is; clock_is = r.quiet.plain.clock_is; ended_is = r.quiet.plain.ended_is; owed_is = r.quiet.plain.owed_is };
+          plain = record { origin_is = r.quiet.plain.origin_is; own_is = own_is; advised_is = advised_is; clock_is = r.quiet.plain.clock_is; ended_is = r.quiet.plain.ended_is; owed_is = r.quiet.plain.owed_is; early = r.quiet.plain.early; settled = r.quiet.plain.settled };
           kept = kept_is;
           begun = r.quiet.begun;
           opens = r.quiet.opens;

@@ -1,5 +1,5 @@
 -- Which stages an entry has that asks, or gives back.
-use Rattle.std.proofs.Common.{rules, ◌≡◌, refl, sym, ◌∙◌, ap, subst, ℕ, zero, suc, ◌+◌, ◌<◌, List, [], ◌∷◌, ◌++◌, map, drop, length, length-append, Option, Some, None, arith, inl, inr}
+use Rattle.std.proofs.Common.{◌≡◌, refl, sym, ◌∙◌, ap, subst, ℕ, zero, suc, List, [], ◌∷◌, ◌++◌, map, drop, length, length-append, arith, inl, inr}
 use Rattle.prio_budget.specs.declared.free.Free.{Free}
 use Rattle.evring.specs.declared.advice.Advice.{Advice}
 use Rattle.evring.specs.declared.reason.Reason.{Reason}
@@ -7,14 +7,12 @@ use Rattle.histbook.specs.declared.look_entry.LookEntry.{LookEntry}
 use Rattle.streamdefs.specs.Terms.{Terms}
 use Rattle.streamdefs.specs.Reorder.{Charge}
 use Rattle.streamdefs.specs.View.{Ask as Request}
-use Rattle.streamdefs.specs.Pending.{Piece}
-use Rattle.streamdefs.specs.Direction.{Direction, Kind, gives_at}
-use Rattle.streamdefs.specs.Direction.Next.{Asks, Gives, Rests as Wants_nothing}
-use Rattle.streamdefs.specs.Convo.{Act, answered_event, given_back, released}
+use Rattle.streamdefs.specs.Direction.{gives_at}
+use Rattle.streamdefs.specs.Direction.Next.{Asks}
+use Rattle.streamdefs.specs.Convo.{Act, answered_event, given_back}
 use Rattle.streamdefs.specs.Convo.Act.{Seg, Answer, Time, End}
 use Rattle.streamdefs.specs.Want.{want, with_free}
 use Rattle.streamdefs.specs.Want.Want.{Reserve, Release}
-use Rattle.flowdir.specs.Boundary.{Phase as DirPhase}
 use Rattle.convo.specs.Going.{charges_going}
 use Rattle.convo.specs.Talk.{Talk, IsWantOf, talk_after}
 use Rattle.convo.specs.Talk.Phase.{Under}

@@ -1,22 +1,20 @@
 -- A direction of a conversation is at work, and what is kept beside it stays.
 use Rattle.convo.specs.Directions.{DirStands, dir_kind}
 use Rattle.flowdir.specs.Kept.{Kept as DirKept}
-use Rattle.std.proofs.Common.{rules, ◌≡◌, refl, sym, ◌∙◌, ap, subst, ℕ, suc, ◌+◌, Bool, true, false, not, cond, List, [], ◌∷◌, ◌++◌, length, Option, Some, None, is_none, arith}
+use Rattle.std.proofs.Common.{◌≡◌, sym, ◌∙◌, ap, ℕ, Bool, not, cond, [], Option, is_none}
 use Rattle.std.specs.Prelude.{◌&&◌}
 use Rattle.convo.specs.declared.convo_set.ConvoSet.{ConvoSet}
 use Rattle.evring.specs.declared.way.Way.{Way}
 use Rattle.evring.specs.declared.way.Way.TheVariants.{Fore, Back}
-use Rattle.streamdefs.specs.Both.{Both, of_way}
+use Rattle.streamdefs.specs.Both.{of_way}
 use Rattle.streamdefs.specs.Terms.{Terms}
 use Rattle.streamdefs.specs.Packet.{Packet as Accepted, has_rst, has_syn, has_fin, same_toward}
 use Rattle.streamdefs.specs.Reorder.{Charge}
-use Rattle.streamdefs.specs.Pending.{Piece}
-use Rattle.streamdefs.specs.Direction.{Direction, Kind, Segment}
+use Rattle.streamdefs.specs.Direction.{Segment}
 use Rattle.streamdefs.specs.Convo.{Convo as Made, kind_of, way_of, segment_of, cutoff_in_force}
-use Rattle.flowdir.specs.Boundary.{Phase as DirPhase}
 use Rattle.flowdir.specs.Boundary.Phase.{Rests as DirRests}
 use Rattle.convo.specs.Talk.{Talk, SetsUp}
-use Rattle.convo.specs.Standing.{HasOrigin, IsResting, IsMidway, IsQuiet, HasKind, arrival, half_of, other, own_of, with_dir, way_by}
+use Rattle.convo.specs.Standing.{HasOrigin, IsSoon, IsResting, IsMidway, HasKind, arrival, half_of, own_of, with_dir, way_by}
 use Rattle.convo.specs.declared.talk.Convo.{Convo}
 use Rattle.convo.specs.declared.origin.Origin.{Origin}
 use Rattle.convo.specs.declared.stage.Stage.{Stage}
@@ -47,17 +45,19 @@ module _ {C : Type 0} (paid : C → Charge) (t : Terms) where
   kind_at k Back x h = h.back_is
 
   -- a direction begins to work
-  pub midway_of : (k : Talk) (w : Way) (x : Convo C) (dir : DirKept C) (stage : Stage) → IsResting paid t x k → dir_kind dir ≡ dir_kind (half_of w (record x { stage = stage })).dir
+  pub midway_of : (k : Talk) (w : Way) (x : Convo C) (dir : DirKept C) (stage : Stage) → IsSoon stage → IsResting paid t x k → dir_kind dir ≡ dir_kind (half_of w (record x { stage = stage })).dir
       → IsMidway paid t (with_dir w dir (record x { stage = stage })) k w
-  midway_of k Fore x dir stage r e = record {
+  midway_of k Fore x dir stage n r e = record {
     quiet = record { plain = r.quiet.plain; kept = r.quiet.kept; begun = r.quiet.begun; opens = r.quiet.opens; over = r.quiet.over; fore_first = r.quiet.fore_first; back_first = r.quiet.back_first; gone = r.quiet.gone };
     kinds = record { fore_is = e ∙ r.kinds.fore_is; back_is = r.kinds.back_is };
     there = r.back;
+    soon = n;
   }
-  midway_of k Back x dir stage r e = record {
+  midway_of k Back x dir stage n r e = record {
     quiet = record { plain = r.quiet.plain; kept = r.quiet.kept; begun = r.quiet.begun; opens = r.quiet.opens; over = r.quiet.over; fore_first = r.quiet.fore_first; back_first = r.quiet.back_first; gone = r.quiet.gone };
     kinds = record { fore_is = r.kinds.fore_is; back_is = e ∙ r.kinds.back_is };
     there = r.fore;
+    soon = n;
   }
 
   -- it goes on
@@ -66,9 +66,11 @@ module _ {C : Type 0} (paid : C → Charge) (t : Terms) where
     quiet = record { plain = m.quiet.plain; kept = m.quiet.kept; begun = m.quiet.begun; opens = m.quiet.opens; over = m.quiet.over; fore_first = m.quiet.fore_first; back_first = m.quiet.back_first; gone = m.quiet.gone };
     kinds = record { fore_is = e ∙ m.kinds.fore_is; back_is = m.kinds.back_is };
     there = m.there;
+    soon = m.soon;
   }
   midway_on k Back x dir m e = record {
     quiet = record { plain = m.quiet.plain; kept = m.quiet.kept; begun = m.quiet.begun; opens = m.quiet.opens; over = m.quiet.over; fore_first = m.quiet.fore_first; back_first = m.quiet.back_first; gone = m.quiet.gone };
     kinds = record { fore_is = m.kinds.fore_is; back_is = e ∙ m.kinds.back_is };
     there = m.there;
+    soon = m.soon;
   }

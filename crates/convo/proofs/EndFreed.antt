@@ -1,6 +1,6 @@
 -- A charge was given back at an End.
 use Rattle.convo.specs.Directions.{DirStands, dir_kind}
-use Rattle.std.proofs.Common.{rules, ◌≡◌, refl, sym, ◌∙◌, ap, subst, ℕ, zero, suc, ◌+◌, ◌-◌, ◌<◌, ◌≤◌, Bool, true, false, List, [], ◌∷◌, ◌++◌, length, length-append, Option, Some, None, arith, inl, inr}
+use Rattle.std.proofs.Common.{◌≡◌, sym, ◌∙◌, ap, subst, ℕ, suc, ◌+◌, ◌<◌, ◌≤◌, List, [], ◌∷◌, ◌++◌, length, length-append, arith}
 use Rattle.evring.specs.declared.way.Way.TheVariants.{Fore, Back}
 use Rattle.evring.specs.declared.reason.Reason.{Reason}
 use Rattle.histbook.specs.declared.look_entry.LookEntry.{LookEntry}
@@ -8,14 +8,14 @@ use Rattle.prio_budget.specs.declared.free.Free.{Free}
 use Rattle.streamdefs.specs.Terms.{Terms}
 use Rattle.streamdefs.specs.Reorder.{Charge}
 use Rattle.streamdefs.specs.Pending.{Piece}
-use Rattle.streamdefs.specs.Direction.{Direction, Kind, Deed, gives_at, next_by}
+use Rattle.streamdefs.specs.Direction.{Direction, Deed, next_by}
 use Rattle.streamdefs.specs.Direction.Next.{Gives}
 use Rattle.streamdefs.specs.Direction.Deed.{Ends}
 use Rattle.streamdefs.specs.Convo.{Act, kind_of}
 use Rattle.streamdefs.specs.Convo.Act.{End}
 use Rattle.streamdefs.specs.Want.{want, with_free}
 use Rattle.streamdefs.specs.Want.Want.{Release}
-use Rattle.flowdir.specs.Boundary.{Phase as DirPhase, IsStep}
+use Rattle.flowdir.specs.Boundary.{IsStep}
 use Rattle.flowdir.specs.Boundary.Phase.{Works}
 use Rattle.convo.specs.Talk.{Talk, IsWantOf}
 use Rattle.convo.specs.Talk.Phase.{Under}

@@ -2,50 +2,48 @@
 use Rattle.evring.specs.Charges.{charges_of_all}
 use Rattle.convo.specs.Directions.{DirStands, dir_kind}
 use Rattle.flowdir.specs.Kept.{Kept as DirKept}
-use Rattle.std.proofs.Common.{rules, ◌≡◌, refl, sym, ◌∙◌, ap, subst, ℕ, zero, suc, ◌+◌, ◌-◌, ◌<◌, ◌≤◌, Bool, true, false, not, cond, List, [], ◌∷◌, ◌++◌, map, drop, length, length-append, Option, Some, None, arith, inl, inr}
+use Rattle.std.proofs.Common.{◌≡◌, refl, sym, ◌∙◌, ap, subst, ℕ, ◌+◌, ◌≤◌, Bool, true, false, cond, List, [], ◌∷◌, ◌++◌, map, length, length-append, Option, Some, None, arith, inl}
 use Rattle.std.specs.Prelude.{◌&&◌}
 use mathlib.Core.List.{append-nil}
-use Rattle.prio_budget.specs.Marks.{mark_of}
 use Rattle.evring.specs.declared.way.Way.{Way}
 use Rattle.evring.specs.declared.way.Way.TheVariants.{Fore, Back}
 use Rattle.evring.specs.declared.reason.Reason.{Reason}
 use Rattle.histbook.specs.declared.look_entry.LookEntry.{LookEntry}
 use Rattle.prio_budget.specs.declared.free.Free.{Free}
-use Rattle.streamdefs.specs.Both.{Both, of_way}
 use Rattle.streamdefs.specs.Lists.{is_empty}
 use Rattle.streamdefs.specs.Terms.{Terms}
 use Rattle.streamdefs.specs.Reorder.{Charge}
 use Rattle.streamdefs.specs.Pending.{Piece}
-use Rattle.streamdefs.specs.Direction.{Direction, Kind, direction_after, gives_at, next_by}
-use Rattle.streamdefs.specs.Direction.Next.{Asks, Gives, Rests as Wants_nothing}
+use Rattle.streamdefs.specs.Direction.{Direction, direction_after}
+use Rattle.streamdefs.specs.Direction.Next.{Gives, Rests as Wants_nothing}
 use Rattle.streamdefs.specs.Direction.Deed.{Ends}
-use Rattle.streamdefs.specs.Convo.{Act, Event as EventMade, Kept as KeptPiece, Delivery, carrying, kind_of, is_live, events_in, ending, charges_of}
-use Rattle.streamdefs.specs.Convo.Event.{New as NewMade, Chunk as ChunkMade, Ended as EndedMade}
-use Rattle.streamdefs.specs.Convo.Act.{Seg, Answer, Time, End}
-use Rattle.streamdefs.specs.Want.{want, next_move}
-use Rattle.flowdir.specs.Boundary.{Phase as DirPhase, IsStep}
-use Rattle.flowdir.specs.Boundary.Phase.{Rests as DirRests, Works}
+use Rattle.streamdefs.specs.Convo.{Act, Event as EventMade, Kept as KeptPiece, carrying, kind_of, is_live, events_in, charges_of}
+use Rattle.streamdefs.specs.Convo.Event.{Chunk as ChunkMade, Ended as EndedMade}
+use Rattle.streamdefs.specs.Convo.Act.{End}
+use Rattle.streamdefs.specs.Want.{next_move}
+use Rattle.flowdir.specs.Boundary.{IsStep}
+use Rattle.flowdir.specs.Boundary.Phase.{Rests as DirRests}
 use Rattle.convo.specs.Seen.{kept_for, IsWant}
 use Rattle.convo.specs.Going.{charges_going}
 use Rattle.convo.specs.Halves.{Hands, HandsBy}
 use Rattle.convo.specs.Talk.{Talk, IsWantOf, talk_after}
-use Rattle.convo.specs.Standing.{IsLeft, HandsOver, IsMidway, IsPlain, IsQuiet, IsResting, left_by, news, ends, own_of}
+use Rattle.convo.specs.Standing.{IsLeft, HandsOver, IsMidway, IsPlain, IsQuiet, IsResting, left_by, news}
 use Rattle.convo.specs.Stands.{Stands, IsMoving}
-use Rattle.convo.specs.Endings.{IsEnding, IsBetween, EndsFore, LeavesFore, EndsBack, LeavesBack, HasEnded, IsBeside, IsAhead, pieces_fore, pieces_back, spares_fore, spares_back, unshown_fore, unshown_back}
+use Rattle.convo.specs.Endings.{IsBetween, LeavesFore, LeavesBack, IsBeside, pieces_fore, pieces_back, spares_fore, spares_back, unshown_fore, unshown_back}
 use Rattle.convo.specs.Endings.IsEnding.{Ends_fore, Leaves_fore, Ends_back, Leaves_back}
 use Rattle.convo.specs.declared.talk.Convo.{Convo}
 use Rattle.convo.specs.declared.stage.Stage.TheVariants as at
 use Rattle.convo.specs.declared.going.Going.{Going}
-use Rattle.convo.specs.declared.half.Half.{Half}
 use Rattle.chunkpart.specs.ChunkParts.{ChunkParts}
 use Rattle.convo.specs.declared.moment.Moment.{Moment}
 use Rattle.convo.specs.declared.want.Want.{Want}
-use Rattle.convo.specs.declared.want.Want.TheVariants.{Ask, Free as FreeWant, Emit, Rest}
-use Rattle.flowdir.specs.declared.step.Step.TheVariants.{Ask as AskStep, Free as FreeStep, Done as DoneStep}
+use Rattle.convo.specs.declared.want.Want.TheVariants.{Free as FreeWant}
+use Rattle.flowdir.specs.declared.step.Step.TheVariants.{Free as FreeStep}
 use Rattle.convo.proofs.DefSteps.{want_gives}
 use Rattle.convo.proofs.GivesSteps.{gives_front, gives_behind, gives_in, gives_past, gives_head, gives_end, end_move}
 use Rattle.convo.proofs.GoingSteps.{charges_all}
 use Rattle.convo.proofs.SegSteps.{is_empty_append}
+use Rattle.convo.proofs.Settling.{settled_after}
 use Rattle.convo.proofs.TurnSteps.{hands_turn}
 
 left_cut : (pieces : List Piece) (kept : List KeptPiece) → left_by pieces (cond (is_empty pieces) [] kept) ≡ []
@@ -81,6 +79,8 @@ module _ {C : Type 0} (paid : C → Charge) (t : Terms) where
             clock_is = l.beside.plain.clock_is;
             ended_is = refl;
             owed_is = none_due (is_live c);
+            early = l.beside.plain.early;
+            settled = record { fore = settled_after t (kind_of t c) c.directions.fore (Ends m); back = settled_after t (kind_of t c) c.directions.back (Ends m) };
           };
           kinds = l.beside.kinds;
           fore_hands = l.fore.hands;
@@ -294,6 +294,7 @@ module _ {C : Type 0} (paid : C → Charge) (t : Terms) where
     quiet = record { plain = m.quiet.plain; kept = m.quiet.kept; begun = m.quiet.begun; opens = m.quiet.opens; over = m.quiet.over; fore_first = m.quiet.fore_first; back_first = m.quiet.back_first; gone = e };
     kinds = m.kinds;
     there = m.there;
+    soon = m.soon;
   }
 
   pub between_on : (x : Convo C) (dir : DirKept C) (k : Talk) (m : ℕ) → dir_kind dir ≡ dir_kind x.back.dir → IsBetween paid t x k m

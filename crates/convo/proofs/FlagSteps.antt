@@ -1,5 +1,5 @@
 -- What a header says is one by both records of a packet.
-use Rattle.std.proofs.Common.{◌≡◌, refl, ap, Bool}
+use Rattle.std.proofs.Common.{◌≡◌, refl, ap}
 use Rattle.std.specs.Prelude.{◌&&◌, ◌/◌, ◌%◌, ◌==◌}
 use Rattle.streamkey.specs.declared.packet.Packet.{Packet}
 use Rattle.streamkey.specs.declared.proto.Proto.{Proto}

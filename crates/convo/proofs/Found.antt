@@ -1,23 +1,20 @@
 -- What is under way, by how far it has come.
 use Rattle.convo.specs.Directions.{DirStands}
-use Rattle.std.proofs.Common.{rules, ◌≡◌, refl, sym, ◌∙◌, ap, subst, ℕ, suc, ◌+◌, Bool, true, false, List, [], ◌∷◌, ◌++◌, length, Option, Some, None, arith, inl, inr}
-use Rattle.std.specs.Prelude.{◌⊎◌, ⊤, ◌<◌}
+use Rattle.std.proofs.Common.{◌≡◌, refl, sym, ◌∙◌, ap, subst, ℕ, suc, ◌+◌, Bool, List, [], length, inl, inr}
+use Rattle.std.specs.Prelude.{⊤, ◌<◌}
 use Rattle.evring.specs.declared.way.Way.{Way}
 use Rattle.evring.specs.declared.way.Way.TheVariants.{Fore, Back}
 use Rattle.evring.specs.declared.reason.Reason.{Reason}
 use Rattle.histbook.specs.declared.look_entry.LookEntry.{LookEntry}
 use Rattle.prio_budget.specs.declared.free.Free.{Free}
-use Rattle.streamdefs.specs.Both.{Both, of_way}
+use Rattle.streamdefs.specs.Both.{of_way}
 use Rattle.streamdefs.specs.Terms.{Terms}
 use Rattle.streamdefs.specs.Packet.{Packet as Accepted, has_rst}
 use Rattle.streamdefs.specs.Reorder.{Charge}
-use Rattle.streamdefs.specs.Pending.{Piece}
-use Rattle.streamdefs.specs.Direction.{Direction, Kind}
-use Rattle.streamdefs.specs.Direction.Deed.{Arrives, Falls_due, Ends}
+use Rattle.streamdefs.specs.Direction.Deed.{Arrives}
 use Rattle.streamdefs.specs.Convo.{Act, way_of, segment_of}
 use Rattle.streamdefs.specs.Convo.Act.{Seg, Answer, Time, End}
-use Rattle.flowdir.specs.Boundary.{Phase as DirPhase}
-use Rattle.flowdir.specs.Boundary.Phase.{Rests as DirRests, Works}
+use Rattle.flowdir.specs.Boundary.Phase.{Works}
 use Rattle.convo.specs.Talk.{Talk}
 use Rattle.convo.specs.Talk.Phase.{Under}
 use Rattle.convo.specs.Standing.{IsMidway, half_of}

@@ -1,15 +1,13 @@
 -- Charges that are given back one after the other.
-use Rattle.std.proofs.Common.{rules, ◌≡◌, refl, sym, ◌∙◌, ap, subst, ℕ, zero, suc, ◌+◌, ◌-◌, ◌<◌, ◌≤◌, Bool, true, false, cond, List, [], ◌∷◌, ◌++◌, drop, length, length-append, Option, Some, None, arith}
-use Rattle.std.specs.Prelude.{slice_get}
+use Rattle.std.proofs.Common.{◌≡◌, refl, ◌∙◌, ap, ℕ, zero, suc, ◌+◌, ◌-◌, ◌<◌, ◌≤◌, List, [], ◌∷◌, ◌++◌, drop, length, length-append, arith}
 use Rattle.evring.specs.declared.reason.Reason.{Reason}
 use Rattle.histbook.specs.declared.look_entry.LookEntry.{LookEntry}
 use Rattle.prio_budget.specs.declared.free.Free.{Free}
 use Rattle.streamdefs.specs.Terms.{Terms}
 use Rattle.streamdefs.specs.Reorder.{Charge}
-use Rattle.streamdefs.specs.Direction.{Next, gives_at, next_by}
-use Rattle.streamdefs.specs.Direction.Next.{Asks, Gives, Rests}
-use Rattle.streamdefs.specs.Direction.Deed.{Ends}
-use Rattle.streamdefs.specs.Convo.{Convo, kind_of}
+use Rattle.streamdefs.specs.Direction.{gives_at}
+use Rattle.streamdefs.specs.Direction.Next.{Gives, Rests}
+use Rattle.streamdefs.specs.Convo.{Convo}
 use Rattle.streamdefs.specs.Convo.Act.{End}
 use Rattle.streamdefs.specs.Want.{or_next, next_move}
 use Rattle.convo.specs.Endings.{spares_fore, spares_back, unshown_fore, unshown_back}

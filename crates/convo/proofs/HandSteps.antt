@@ -1,28 +1,27 @@
 -- One event more is handed over.
 use Rattle.convo.specs.Directions.{dir_kind}
-use Rattle.std.proofs.Common.{rules, ◌≡◌, refl, sym, ◌∙◌, ap, subst, ℕ, ◌+◌, Bool, true, false, not, cond, List, [], ◌∷◌, ◌++◌, map, drop, Option, Some, None, arith}
+use Rattle.std.proofs.Common.{◌≡◌, refl, sym, ◌∙◌, ap, subst, Bool, true, false, not, List, [], ◌∷◌, ◌++◌, map, Some, None}
 use Rattle.std.specs.Prelude.{◌&&◌}
-use Rattle.chunkpart.specs.ChunkParts.{ChunkParts, parts_of}
+use Rattle.chunkpart.specs.ChunkParts.{ChunkParts}
 use Rattle.evring.specs.declared.way.Way.TheVariants.{Fore, Back}
-use Rattle.evring.specs.declared.reason.Reason.{Reason}
 use Rattle.streamkey.specs.Key.{source_of, target_of}
 use Rattle.streamdefs.specs.Lists.{is_empty}
 use Rattle.streamdefs.specs.Terms.{Terms}
 use Rattle.streamdefs.specs.Reorder.{Charge}
 use Rattle.streamdefs.specs.Pending.{Piece}
-use Rattle.streamdefs.specs.Direction.{Direction, Kind}
-use Rattle.streamdefs.specs.Convo.{Event as EventMade, Delivery, Kept as KeptPiece, carrying}
-use Rattle.streamdefs.specs.Convo.Event.{New as NewMade, Chunk as ChunkMade, Ended as EndedMade}
-use Rattle.flowdir.specs.Boundary.{Phase as DirPhase, piece_for}
+use Rattle.streamdefs.specs.Direction.{Direction}
+use Rattle.streamdefs.specs.Convo.{Event as EventMade, Delivery, carrying}
+use Rattle.streamdefs.specs.Convo.Event.{New as NewMade, Chunk as ChunkMade}
+use Rattle.flowdir.specs.Boundary.{piece_for}
 use Rattle.convo.specs.Seen.{kept_for, IsEvent}
 use Rattle.convo.specs.Halves.{Hands, HandsFirst, KeptIs}
 use Rattle.convo.specs.Talk.{Talk}
-use Rattle.convo.specs.Standing.{HandsOver, IsResting, IsLeft, IsHanding, HasOrigin, HasKind, IsPlain, own_of, news, ends, left_by}
+use Rattle.convo.specs.Standing.{HandsOver, IsResting, IsLeft, IsHanding, HasOrigin, IsPlain, news, ends, left_by}
 use Rattle.convo.specs.declared.talk.Convo.{Convo}
 use Rattle.convo.specs.declared.origin.Origin.{Origin}
 use Rattle.convo.specs.declared.half.Half.{Half}
-use Rattle.evring.specs.declared.event.Event.TheVariants.{New, Chunk, Ended}
-use Rattle.convo.specs.declared.want.Want.TheVariants.{Emit, Rest}
+use Rattle.evring.specs.declared.event.Event.TheVariants.{New, Chunk}
+use Rattle.convo.specs.declared.want.Want.TheVariants.{Emit}
 
 and_false : (b : Bool) → (b && false) ≡ false
 and_false true = refl

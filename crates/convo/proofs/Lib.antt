@@ -7,7 +7,9 @@ mod SegSteps
 mod TurnSteps
 mod OwedSteps
 mod SegTurn
+mod Settling
 mod Dirs
+mod Lefts
 mod Found
 mod SegTold
 mod GoingSteps

@@ -1,6 +1,5 @@
 -- Cutoffs, marks and the End that is due, by what is kept.
-use Rattle.std.proofs.Common.{rules, ◌≡◌, refl, sym, ◌∙◌, ap, subst, ℕ, suc, ◌+◌, Bool, true, false, not, cond, List, [], ◌∷◌, ◌++◌, Option, Some, None, is_none, unwrap_or, arith}
-use Rattle.std.specs.Prelude.{◌&&◌, ◌||◌, nat_le}
+use Rattle.std.proofs.Common.{◌≡◌, refl, sym, ◌∙◌, ap, ℕ, [], ◌∷◌, Option, Some, None, unwrap_or}
 use Rattle.prio_budget.specs.Marks.{mark_of}
 use Rattle.convo.specs.declared.convo_set.ConvoSet.{ConvoSet}
 use Rattle.cutclass.specs.declared.cut.Cut.{Cut}
@@ -8,15 +7,14 @@ use Rattle.cutclass.specs.InForce.{first_set}
 use Rattle.evring.specs.declared.way.Way.{Way}
 use Rattle.evring.specs.declared.way.Way.TheVariants.{Fore, Back}
 use Rattle.evring.specs.declared.reason.Reason.{Reason}
-use Rattle.evring.specs.declared.reason.Reason.TheVariants.{Closed, Reset}
 use Rattle.streamdefs.specs.Both.{Both, of_way}
-use Rattle.streamdefs.specs.Marks.{Marks, mark}
+use Rattle.streamdefs.specs.Marks.{mark}
 use Rattle.streamdefs.specs.Terms.{Terms}
 use Rattle.streamdefs.specs.View.{Ask as Request}
 use Rattle.streamdefs.specs.Direction.{Direction}
 use Rattle.streamdefs.specs.Convo.{Convo as Made, cutoff_in_force, class_cutoff, class_of, is_done, closing, mark_for, priority_in_force, class_priority}
 use Rattle.convo.specs.Talk.{Talk, SetsUp}
-use Rattle.convo.specs.Standing.{HasOrigin, IsPlain, cutoff_by, done_by, is_reached, closing_by, done_of, own_of}
+use Rattle.convo.specs.Standing.{HasOrigin, IsPlain, cutoff_by, done_by, closing_by, done_of, own_of}
 use Rattle.convo.specs.declared.origin.Origin.{Origin}
 use Rattle.convo.specs.declared.talk.Convo.{Convo}
 

@@ -1,7 +1,7 @@
 -- A segment's moves are made.
 use Rattle.convo.specs.Directions.{DirStands}
-use Rattle.std.proofs.Common.{rules, ◌≡◌, refl, sym, ◌∙◌, ap, subst, ℕ, suc, ◌+◌, Bool, true, false, not, cond, List, [], ◌∷◌, ◌++◌, map, drop, length, Option, Some, None, is_none, arith, inl, inr}
-use Rattle.std.specs.Prelude.{◌&&◌, slice_get}
+use Rattle.std.proofs.Common.{◌≡◌, refl, sym, ◌∙◌, ap, subst, ℕ, Bool, true, false, not, cond, List, [], ◌∷◌, ◌++◌, map, Option, is_none}
+use Rattle.std.specs.Prelude.{◌&&◌, ◌≤◌, ◌^◌}
 use mathlib.Core.List.{append-nil}
 use Rattle.evring.specs.declared.way.Way.{Way}
 use Rattle.evring.specs.declared.way.Way.TheVariants.{Fore, Back}
@@ -14,18 +14,18 @@ use Rattle.streamdefs.specs.Terms.{Terms}
 use Rattle.streamdefs.specs.Packet.{Packet as Accepted}
 use Rattle.streamdefs.specs.Reorder.{Charge}
 use Rattle.streamdefs.specs.Pending.{Piece}
-use Rattle.streamdefs.specs.Direction.{Direction, Kind, Segment, direction_after, pieces_by}
+use Rattle.streamdefs.specs.Direction.{Segment, direction_after, pieces_by}
 use Rattle.streamdefs.specs.Direction.Deed.{Arrives}
-use Rattle.streamdefs.specs.Convo.{Act, Convo as Made, Event as EventMade, Kept as KeptPiece, kind_of, way_of, segment_of, carrying, is_live, after, events_in}
+use Rattle.streamdefs.specs.Convo.{Convo as Made, Event as EventMade, kind_of, way_of, segment_of, carrying, is_live, after, events_in}
 use Rattle.streamdefs.specs.Convo.Event.{New as NewMade, Chunk as ChunkMade}
 use Rattle.streamdefs.specs.Convo.Act.{Seg}
-use Rattle.flowdir.specs.Boundary.{Phase as DirPhase}
 use Rattle.flowdir.specs.Boundary.Phase.{Rests as DirRests}
 use Rattle.convo.specs.Seen.{kept_for}
 use Rattle.convo.specs.Halves.{HandsBy}
-use Rattle.convo.specs.Talk.{Talk, Sums, talk_after}
-use Rattle.convo.specs.Standing.{IsLeft, IsMidway, IsQuiet, finished_segment, half_of, left_by, news, ends, own_of}
+use Rattle.convo.specs.Talk.{Talk, Sums}
+use Rattle.convo.specs.Standing.{IsLeft, IsMidway, IsQuiet, finished_segment, half_of, news, ends}
 use Rattle.convo.specs.declared.talk.Convo.{Convo}
+use Rattle.convo.proofs.Settling.{settled_after}
 
 -- the events of a segment of a direction
 abbrev pub events_seg : Made → Way → List Piece → List EventMade
@@ -66,14 +66,18 @@ in_line : (b : Bool) (xs : List EventMade) → (cond b (NewMade ∷ []) [] ++ xs
 in_line true xs = refl
 in_line false xs = refl
 
+early_by : (b : Bool) (m n : ℕ) → m ≤ 2 ^ 62 → n ≤ 2 ^ 62 → cond b m n ≤ 2 ^ 62
+early_by true m n a b = a
+early_by false m n a b = b
+
 module _ {C : Type 0} (paid : C → Charge) (t : Terms) where
   pub seg_left : (k : Talk) (x : Convo C) (w : Way) (s : Segment) (now : ℕ) (looks : List LookEntry) (owed due : Option (Reason × ℕ)) (sums : Both Sums)
-      → IsMidway paid t x k w
+      → now ≤ 2 ^ 62 → IsMidway paid t x k w
       → DirStands paid (half_of w x).dir (direction_after t (kind_of t k.convo) (of_way w k.convo.directions) (Arrives s looks)) DirRests (pieces_by t (kind_of t k.convo) (of_way w k.convo.directions) (Arrives s looks))
       → due ≡ owed
       → IsLeft paid t (finished_segment owed now x) (record { convo = after_seg t k.convo w s now looks; owed = due; sums = sums })
       (events_seg k.convo w (pieces_by t (kind_of t k.convo) (of_way w k.convo.directions) (Arrives s looks)))
-  seg_left k x Fore s now looks owed due sums m here owed_is =
+  seg_left k x Fore s now looks owed due sums soon m here owed_is =
       let q : IsQuiet paid t x k = m.quiet in
       let d = direction_after t (kind_of t k.convo) k.convo.directions.fore (Arrives s looks) in
       let pieces : List Piece = pieces_by t (kind_of t k.convo) k.convo.directions.fore (Arrives s looks) in
@@ -88,6 +92,8 @@ module _ {C : Type 0} (paid : C → Charge) (t : Terms) where
             clock_is = ap (λ e. cond (is_none e) now k.convo.clock) q.plain.ended_is ∙ ap (λ n. cond (is_none x.ended) now n) q.plain.clock_is;
             ended_is = q.plain.ended_is;
             owed_is = owed_is;
+            early = early_by (is_none x.ended) now x.clock soon q.plain.early;
+            settled = record { fore = settled_after t (kind_of t k.convo) k.convo.directions.fore (Arrives s looks); back = q.plain.settled.back };
           };
           kinds = m.kinds;
           fore_hands = subst (λ f. HandsBy paid (DirStands paid x.fore.dir d DirRests) f pieces) (sym q.fore_first) here;
@@ -102,7 +108,7 @@ module _ {C : Type 0} (paid : C → Charge) (t : Terms) where
           stage = refl;
         };
       }
-  seg_left k x Back s now looks owed due sums m here owed_is =
+  seg_left k x Back s now looks owed due sums soon m here owed_is =
       let q : IsQuiet paid t x k = m.quiet in
       let d = direction_after t (kind_of t k.convo) k.convo.directions.back (Arrives s looks) in
       let pieces : List Piece = pieces_by t (kind_of t k.convo) k.convo.directions.back (Arrives s looks) in
@@ -117,6 +123,8 @@ module _ {C : Type 0} (paid : C → Charge) (t : Terms) where
             clock_is = ap (λ e. cond (is_none e) now k.convo.clock) q.plain.ended_is ∙ ap (λ n. cond (is_none x.ended) now n) q.plain.clock_is;
             ended_is = q.plain.ended_is;
             owed_is = owed_is;
+            early = early_by (is_none x.ended) now x.clock soon q.plain.early;
+            settled = record { fore = q.plain.settled.fore; back = settled_after t (kind_of t k.convo) k.convo.directions.back (Arrives s looks) };
           };
           kinds = m.kinds;
           fore_hands = subst (λ f. HandsBy paid (DirStands paid x.fore.dir k.convo.directions.fore DirRests) f []) (sym q.fore_first) m.there;

@@ -1,31 +1,30 @@
 -- A segment goes on.
 use Rattle.convo.specs.Directions.{DirStands, dir_kind}
-use Rattle.std.proofs.Common.{rules, ◌≡◌, refl, sym, ◌∙◌, ap, subst, ℕ, suc, ◌+◌, Bool, true, false, List, [], ◌∷◌, ◌++◌, length, length-append, Option, Some, None, arith, inl, inr}
+use Rattle.std.proofs.Common.{◌≡◌, sym, ◌∙◌, ap, subst, ℕ, suc, Bool, List, [], ◌∷◌, ◌++◌, length, length-append, Option, arith}
 use Rattle.convo.specs.declared.convo_set.ConvoSet.{ConvoSet}
 use Rattle.evring.specs.declared.way.Way.{Way}
 use Rattle.histbook.specs.declared.look_entry.LookEntry.{LookEntry}
 use Rattle.prio_budget.specs.declared.free.Free.{Free}
-use Rattle.streamdefs.specs.Both.{Both, of_way}
+use Rattle.streamdefs.specs.Both.{of_way}
 use Rattle.streamdefs.specs.Terms.{Terms}
 use Rattle.streamdefs.specs.Packet.{Packet as Accepted, has_rst}
 use Rattle.streamdefs.specs.Reorder.{Charge}
 use Rattle.streamdefs.specs.View.{Ask as Request}
 use Rattle.streamdefs.specs.Pending.{Piece}
-use Rattle.streamdefs.specs.Direction.{Direction, Kind, Deed, next_by, with_one_look}
-use Rattle.streamdefs.specs.Direction.Deed.{Arrives, Falls_due, Ends}
+use Rattle.streamdefs.specs.Direction.{Direction, Deed, next_by, with_one_look}
+use Rattle.streamdefs.specs.Direction.Deed.{Arrives}
 use Rattle.streamdefs.specs.Direction.Next.{Asks, Gives}
 use Rattle.streamdefs.specs.Convo.{Act, kind_of, way_of, segment_of}
-use Rattle.streamdefs.specs.Convo.Act.{Seg, Answer, Time, End}
+use Rattle.streamdefs.specs.Convo.Act.{Seg}
 use Rattle.streamdefs.specs.Want.{want, with_look, with_free}
 use Rattle.streamdefs.specs.Want.Want.{Reserve, Release}
-use Rattle.flowdir.specs.Boundary.{Phase as DirPhase, IsStep, IsLookOf}
-use Rattle.flowdir.specs.Boundary.Phase.{Rests as DirRests, Works}
+use Rattle.flowdir.specs.Boundary.{IsStep, IsLookOf}
+use Rattle.flowdir.specs.Boundary.Phase.{Works}
 use Rattle.convo.specs.Talk.{Talk, IsWantOf}
 use Rattle.convo.specs.Talk.Phase.{Under}
 use Rattle.convo.specs.Standing.{IsMidway, half_of, with_dir}
 use Rattle.convo.specs.Stands.{Stands}
 use Rattle.convo.specs.declared.talk.Convo.{Convo}
-use Rattle.convo.specs.declared.stage.Stage.{Stage}
 use Rattle.convo.specs.declared.stage.Stage.TheVariants as at
 use Rattle.convo.specs.declared.want.Want.{Want}
 use Rattle.flowdir.specs.declared.step.Step.{Step}

@@ -1,40 +1,39 @@
 -- What a segment's step makes of its entry.
 use Rattle.convo.specs.Directions.{DirStands}
-use Rattle.std.proofs.Common.{rules, ◌≡◌, refl, sym, ◌∙◌, ap, subst, ℕ, suc, ◌+◌, Bool, true, false, not, cond, List, [], ◌∷◌, ◌++◌, length, Option, Some, None, is_none, unwrap_or, arith, inl, inr}
+use Rattle.std.specs.Prelude.{◌^◌}
+use Rattle.std.proofs.Common.{◌≡◌, refl, sym, ◌∙◌, ap, subst, ℕ, Bool, List, [], length, Option, is_none, unwrap_or, inl, ◌≤◌}
 use Rattle.prio_budget.specs.Marks.{mark_of}
 use Rattle.convo.specs.declared.convo_set.ConvoSet.{ConvoSet}
 use Rattle.evring.specs.declared.way.Way.{Way}
 use Rattle.evring.specs.declared.way.Way.TheVariants.{Fore, Back}
 use Rattle.evring.specs.declared.reason.Reason.{Reason}
-use Rattle.evring.specs.declared.reason.Reason.TheVariants.{Reset}
 use Rattle.histbook.specs.declared.look_entry.LookEntry.{LookEntry}
 use Rattle.prio_budget.specs.declared.free.Free.{Free}
-use Rattle.streamdefs.specs.Both.{Both, of_way, with_way}
+use Rattle.streamdefs.specs.Both.{of_way, with_way}
 use Rattle.streamdefs.specs.Terms.{Terms}
 use Rattle.streamdefs.specs.Packet.{Packet as Accepted, has_rst}
 use Rattle.streamdefs.specs.Reorder.{Charge}
 use Rattle.streamdefs.specs.Pending.{Piece}
-use Rattle.streamdefs.specs.Direction.{Direction, Kind, direction_after, pieces_by, next_by}
+use Rattle.streamdefs.specs.Direction.{Direction, direction_after, pieces_by}
 use Rattle.streamdefs.specs.Direction.Deed.{Arrives}
-use Rattle.streamdefs.specs.Direction.Next.{Rests as Wants_nothing}
-use Rattle.streamdefs.specs.Convo.{Act, Convo as Made, Event as EventMade, kind_of, way_of, segment_of, is_live, after, events_in, ending}
+use Rattle.streamdefs.specs.Convo.{Act, Event as EventMade, kind_of, way_of, segment_of, is_live, after, events_in, ending}
 use Rattle.streamdefs.specs.Convo.Act.{Seg}
-use Rattle.streamdefs.specs.Want.{want, next_move}
-use Rattle.flowdir.specs.Boundary.{Phase as DirPhase, IsStep}
-use Rattle.flowdir.specs.Boundary.Phase.{Rests as DirRests, Works}
+use Rattle.streamdefs.specs.Want.{want}
+use Rattle.flowdir.specs.Boundary.{IsStep}
+use Rattle.flowdir.specs.Boundary.Phase.{Rests as DirRests}
 use Rattle.convo.specs.Seen.{IsWant}
 use Rattle.convo.specs.Talk.{Talk, IsWantOf, SetsUp, talk_after}
-use Rattle.convo.specs.Standing.{HandsOver, HasOrigin, IsResting, IsLeft, IsMidway, IsQuiet, IsPlain, HasKind, closing_by, done_of, finished_segment, half_of, other, own_of, owed_by_segment, with_counts, with_dir}
+use Rattle.convo.specs.Standing.{IsSoon, HandsOver, HasOrigin, IsResting, IsLeft, IsMidway, IsQuiet, closing_by, done_of, finished_segment, half_of, own_of, owed_by_segment, with_counts}
 use Rattle.convo.specs.Stands.{IsMoving, Stands}
 use Rattle.convo.specs.declared.talk.Convo.{Convo}
 use Rattle.convo.specs.declared.stage.Stage.TheVariants as at
 use Rattle.flowdir.specs.declared.counts.Counts.{Counts}
 use Rattle.convo.specs.declared.want.Want.{Want}
-use Rattle.convo.specs.declared.want.Want.TheVariants.{Ask, Free as FreeWant, Emit, Rest}
+use Rattle.convo.specs.declared.want.Want.TheVariants.{Ask, Free as FreeWant}
 use Rattle.flowdir.specs.declared.step.Step.TheVariants.{Ask as AskStep, Free as FreeStep, Done as DoneStep}
 use Rattle.convo.proofs.DefSteps.{seg_move, want_asks, want_gives}
 use Rattle.convo.proofs.OwedSteps.{closing_is, mark_is}
-use Rattle.convo.proofs.SegSteps.{after_seg, seg_left}
+use Rattle.convo.proofs.SegSteps.{seg_left}
 use Rattle.convo.proofs.TurnSteps.{hands_turn}
 
 -- the End that is due behind a segment
@@ -54,10 +53,10 @@ module _ {C : Type 0} (paid : C → Charge) (t : Terms) where
   quiet_back k counts x q = record { plain = q.plain; kept = q.kept; begun = q.begun; opens = q.opens; over = q.over; fore_first = q.fore_first; back_first = q.back_first; gone = q.gone }
 
   pub midway_counts : (k : Talk) (w v : Way) (counts : Counts) (x : Convo C) → IsMidway paid t x k w → IsMidway paid t (with_counts v counts x) k w
-  midway_counts k Fore Fore counts x m = record { quiet = quiet_fore k counts x m.quiet; kinds = m.kinds; there = m.there }
-  midway_counts k Fore Back counts x m = record { quiet = quiet_back k counts x m.quiet; kinds = m.kinds; there = m.there }
-  midway_counts k Back Fore counts x m = record { quiet = quiet_fore k counts x m.quiet; kinds = m.kinds; there = m.there }
-  midway_counts k Back Back counts x m = record { quiet = quiet_back k counts x m.quiet; kinds = m.kinds; there = m.there }
+  midway_counts k Fore Fore counts x m = record { quiet = quiet_fore k counts x m.quiet; kinds = m.kinds; there = m.there; soon = m.soon }
+  midway_counts k Fore Back counts x m = record { quiet = quiet_back k counts x m.quiet; kinds = m.kinds; there = m.there; soon = m.soon }
+  midway_counts k Back Fore counts x m = record { quiet = quiet_fore k counts x m.quiet; kinds = m.kinds; there = m.there; soon = m.soon }
+  midway_counts k Back Back counts x m = record { quiet = quiet_back k counts x m.quiet; kinds = m.kinds; there = m.there; soon = m.soon }
 
   -- an ask, or a release
   seg_asks : (k : Talk) (x : Convo C) (set : ConvoSet) (p : Accepted) (now : ℕ) (looks : List LookEntry) (frees : List Free) (bytes : ℕ) → SetsUp set t → IsMidway paid t x k (way_of k.convo p)
@@ -93,13 +92,13 @@ module _ {C : Type 0} (paid : C → Charge) (t : Terms) where
 
   -- its moves are made, and the first event goes out
   seg_done : (k : Talk) (x y : Convo C) (set : ConvoSet) (p : Accepted) (now : ℕ) (looks : List LookEntry) (frees : List Free) (counts : Counts) (owed : Option (Reason × ℕ)) (want : Want C) → SetsUp set t
-      → IsMidway paid t x k (way_of k.convo p)
+      → now ≤ 2 ^ 62 → IsMidway paid t x k (way_of k.convo p)
       → IsStep paid (DirStands paid (half_of (way_of k.convo p) x).dir) t (kind_of t k.convo) (of_way (way_of k.convo p) k.convo.directions) (Arrives (segment_of t k.convo p now) looks) (length frees) [] (DoneStep counts)
       → ((fore back : Direction) (a b : List Piece) → DirStands paid x.fore.dir fore DirRests a → DirStands paid x.back.dir back DirRests b
       → owed ≡ owed_by_segment (is_none x.ended) (has_rst p) now (closing_by (done_of x set Fore fore) (done_of x set Back back) now))
       → ((k' : Talk) (events : List EventMade) → IsLeft paid t (finished_segment owed now x) k' events → HandsOver paid k'.convo.first (IsResting paid t y k') (IsLeft paid t y k') events want)
       → IsWantOf paid (Stands paid y t) t k (Seg p now looks frees) 0 want
-  seg_done k x y set p now looks frees counts owed want s m h o hand =
+  seg_done k x y set p now looks frees counts owed want s soon m h o hand =
       let act : Act = Seg p now looks frees in
       let d : Direction = direction_after t (kind_of t k.convo) (of_way (way_of k.convo p) k.convo.directions) (Arrives (segment_of t k.convo p now) looks) in
       let pieces : List Piece = pieces_by t (kind_of t k.convo) (of_way (way_of k.convo p) k.convo.directions) (Arrives (segment_of t k.convo p now) looks) in
@@ -107,7 +106,7 @@ module _ {C : Type 0} (paid : C → Charge) (t : Terms) where
       let b = rests_back k (way_of k.convo p) x d pieces m h.2 in
       let due = owed_is t set x k p now looks frees s m.quiet.plain.origin_is m.quiet.plain.own_is m.quiet.plain.ended_is
       ∙ sym (o (with_way (way_of k.convo p) d k.convo.directions).fore (with_way (way_of k.convo p) d k.convo.directions).back a.0 b.0 a.1 b.1) in
-      let left = seg_left paid t k x (way_of k.convo p) (segment_of t k.convo p now) now looks owed (ending t k.convo act) (talk_after t k act).sums m h.2 due in
+      let left = seg_left paid t k x (way_of k.convo p) (segment_of t k.convo p now) now looks owed (ending t k.convo act) (talk_after t k act).sums soon m h.2 due in
       hands_turn paid t k y act 0 k.convo.first want refl (seg_move t k.convo p now looks frees ∙ h.0) (hand (talk_after t k act) (events_in t k.convo act) left)
 
   -- the same, where way and reset are known by an equation
@@ -134,15 +133,15 @@ module _ {C : Type 0} (paid : C → Charge) (t : Terms) where
   counted_dir Back Back counts x = refl
 
   pub done_at : (k : Talk) (x x1 x2 y : Convo C) (set : ConvoSet) (way : Way) (reset : Bool) (p : Accepted) (now : ℕ) (looks : List LookEntry) (frees : List Free) (counts more : Counts) (want : Want C)
-      → SetsUp set t → IsMidway paid t x k way → way ≡ way_of k.convo p → reset ≡ has_rst p
+      → x.stage ≡ at.Segment way now reset → SetsUp set t → IsMidway paid t x k way → way ≡ way_of k.convo p → reset ≡ has_rst p
       → IsStep paid (DirStands paid (half_of way x).dir) t (kind_of t k.convo) (of_way way k.convo.directions) (Arrives (segment_of t k.convo p now) looks) (length frees) [] (DoneStep counts)
       → x1 ≡ with_counts way more x → x2 ≡ finished_segment x2.owed now x1
       → ((fore back : Direction) (a b : List Piece) → DirStands paid x1.fore.dir fore DirRests a → DirStands paid x1.back.dir back DirRests b
       → x2.owed ≡ owed_by_segment (is_none x1.ended) reset now (closing_by (done_of x1 set Fore fore) (done_of x1 set Back back) now))
       → ((k' : Talk) (events : List EventMade) → IsLeft paid t x2 k' events → HandsOver paid k'.convo.first (IsResting paid t y k') (IsLeft paid t y k') events want)
       → IsWantOf paid (Stands paid y t) t k (Seg p now looks frees) 0 want
-  done_at k x x1 x2 y set way reset p now looks frees counts more want s m w r h e1 e2 o hand =
-      seg_done k x1 y set p now looks frees counts x2.owed want s
+  done_at k x x1 x2 y set way reset p now looks frees counts more want st s m w r h e1 e2 o hand =
+      seg_done k x1 y set p now looks frees counts x2.owed want s (subst IsSoon st m.soon)
       (subst (λ x. IsMidway paid t x k (way_of k.convo p)) (sym e1) (midway_counts k (way_of k.convo p) way more x (subst (λ w. IsMidway paid t x k w) w m)))
       (subst (λ dir. IsStep paid (DirStands paid dir) t (kind_of t k.convo) (of_way (way_of k.convo p) k.convo.directions) (Arrives (segment_of t k.convo p now) looks) (length frees) [] (DoneStep counts))
       (sym (ap (λ x. (half_of (way_of k.convo p) x).dir) e1 ∙ counted_dir (way_of k.convo p) way more x))

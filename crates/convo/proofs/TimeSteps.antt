@@ -1,18 +1,15 @@
 -- A moment that is due goes on.
-use Rattle.convo.specs.Directions.{DirStands}
-use Rattle.std.proofs.Common.{rules, ◌≡◌, refl, sym, ◌∙◌, ap, subst, ℕ, zero, suc, ◌+◌, ◌-◌, ◌<◌, ◌≤◌, Bool, true, false, not, cond, List, [], ◌∷◌, ◌++◌, map, drop, length, length-append, Option, Some, None, is_none, arith, inl, inr}
-use Rattle.std.specs.Prelude.{◌&&◌, slice_get, nat_lt}
-use mathlib.Core.List.{append-nil}
+use Rattle.std.proofs.Common.{rules, ◌≡◌, refl, sym, ◌∙◌, ap, subst, ℕ, zero, suc, ◌+◌, ◌-◌, ◌<◌, ◌≤◌, Bool, true, false, cond, List, [], ◌∷◌, ◌++◌, drop, length, length-append, Option, Some, None, arith}
+use Rattle.std.specs.Prelude.{slice_get}
 use Rattle.histbook.specs.declared.look_entry.LookEntry.{LookEntry}
 use Rattle.prio_budget.specs.declared.free.Free.{Free}
 use Rattle.streamdefs.specs.Terms.{Terms}
 use Rattle.streamdefs.specs.Reorder.{Charge}
 use Rattle.streamdefs.specs.View.{Ask}
-use Rattle.streamdefs.specs.Pending.{Piece}
-use Rattle.streamdefs.specs.Direction.{Direction, Kind, Next, asks_by, pieces_by, spares_by, direction_after, gives_at, next_by}
+use Rattle.streamdefs.specs.Direction.{Direction, Kind, Next, asks_by, pieces_by, spares_by, gives_at, next_by}
 use Rattle.streamdefs.specs.Direction.Next.{Asks, Gives, Rests}
 use Rattle.streamdefs.specs.Direction.Deed.{Falls_due}
-use Rattle.streamdefs.specs.Convo.{Act, Convo, kind_of}
+use Rattle.streamdefs.specs.Convo.{Convo, kind_of}
 use Rattle.streamdefs.specs.Convo.Act.{Time}
 use Rattle.streamdefs.specs.Want.{or_next, next_move}
 use Rattle.convo.specs.Timings.{asks_due, pieces_due, spares_due}

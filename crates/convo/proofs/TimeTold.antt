@@ -1,6 +1,6 @@
 -- A moment that is due was answered.
 use Rattle.convo.specs.Directions.{DirStands, dir_kind}
-use Rattle.std.proofs.Common.{rules, ◌≡◌, refl, sym, ◌∙◌, ap, subst, ℕ, zero, suc, ◌+◌, ◌-◌, ◌<◌, ◌≤◌, Bool, true, false, List, [], ◌∷◌, ◌++◌, length, length-append, Option, Some, None, arith, inl, inr}
+use Rattle.std.proofs.Common.{◌≡◌, refl, sym, ◌∙◌, ap, subst, ℕ, suc, ◌+◌, ◌≤◌, List, [], ◌∷◌, ◌++◌, length, length-append, Option, arith, inl, inr}
 use mathlib.Core.List.{append_assoc}
 use Rattle.evring.specs.declared.way.Way.{Way}
 use Rattle.evring.specs.declared.reason.Reason.{Reason}
@@ -11,19 +11,19 @@ use Rattle.streamdefs.specs.Terms.{Terms}
 use Rattle.streamdefs.specs.Reorder.{Charge}
 use Rattle.streamdefs.specs.View.{Ask as Request}
 use Rattle.streamdefs.specs.Pending.{Piece}
-use Rattle.streamdefs.specs.Direction.{Direction, Kind, Deed, Next, next_by, with_one_look}
-use Rattle.streamdefs.specs.Direction.Next.{Asks, Gives, Rests as Wants_nothing}
+use Rattle.streamdefs.specs.Direction.{Direction, Kind, Deed, next_by, with_one_look}
+use Rattle.streamdefs.specs.Direction.Next.{Asks, Gives}
 use Rattle.streamdefs.specs.Direction.Deed.{Falls_due}
 use Rattle.streamdefs.specs.Convo.{Act, kind_of}
 use Rattle.streamdefs.specs.Convo.Act.{Seg, Answer, Time, End}
-use Rattle.streamdefs.specs.Want.{want, next_move, with_look, with_free}
+use Rattle.streamdefs.specs.Want.{want, with_look, with_free}
 use Rattle.streamdefs.specs.Want.Want.{Reserve, Release}
-use Rattle.flowdir.specs.Boundary.{Phase as DirPhase, IsStep, IsLookOf}
-use Rattle.flowdir.specs.Boundary.Phase.{Rests as DirRests, Works}
+use Rattle.flowdir.specs.Boundary.{IsStep, IsLookOf}
+use Rattle.flowdir.specs.Boundary.Phase.{Works}
 use Rattle.convo.specs.Talk.{Talk, IsWantOf}
 use Rattle.convo.specs.Talk.Phase.{Under}
 use Rattle.convo.specs.Standing.{IsMidway}
-use Rattle.convo.specs.Stands.{Stands, IsMoving}
+use Rattle.convo.specs.Stands.{Stands}
 use Rattle.convo.specs.Endings.{IsEnding}
 use Rattle.convo.specs.Endings.IsEnding.{Ends_fore, Leaves_fore, Ends_back, Leaves_back}
 use Rattle.convo.specs.Timings.{IsTiming, IsTimeDone, IsUnfinished, asks_due, spares_due}
@@ -37,7 +37,7 @@ use Rattle.flowdir.specs.declared.step.Step.{Step}
 use Rattle.convo.proofs.DefSteps.{want_reserve, want_release}
 use Rattle.convo.proofs.Dirs.{midway_on}
 use Rattle.convo.proofs.TimeTurn.{done_on, fore_next}
-use Rattle.convo.proofs.TimeSteps.{ask_within, back_move, gives_within_due, rest_behind}
+use Rattle.convo.proofs.TimeSteps.{ask_within, back_move, gives_within_due}
 
 -- a moment that is under way
 pub record FoundTime {C : Type 0} (paid : C → Charge) (t : Terms) (x : Convo C) (k : Talk) (act : Act) (emitted : ℕ) : Type 0 where

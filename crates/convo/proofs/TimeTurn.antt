@@ -1,8 +1,8 @@
 -- What a moment's step makes of its entry.
 use Rattle.convo.specs.Directions.{DirStands, dir_kind}
 use Rattle.flowdir.specs.Kept.{Kept as DirKept}
-use Rattle.std.proofs.Common.{rules, ◌≡◌, refl, sym, ◌∙◌, ap, subst, ℕ, zero, suc, ◌+◌, ◌-◌, ◌<◌, ◌≤◌, Bool, true, false, not, cond, List, [], ◌∷◌, ◌++◌, map, drop, length, length-append, Option, Some, None, is_none, unwrap_or, min, arith, inl, inr}
-use Rattle.std.specs.Prelude.{◌&&◌, nat_lt, ⊤}
+use Rattle.std.proofs.Common.{◌≡◌, refl, sym, ◌∙◌, ap, subst, ℕ, ◌+◌, ◌-◌, ◌≤◌, Bool, true, false, cond, List, [], ◌∷◌, ◌++◌, map, drop, length, Option, Some, None, is_none, unwrap_or, min, arith, inl}
+use Rattle.std.specs.Prelude.{◌&&◌, nat_lt}
 use mathlib.Core.List.{append-nil}
 use Rattle.prio_budget.specs.Marks.{mark_of}
 use Rattle.convo.specs.declared.convo_set.ConvoSet.{ConvoSet}
@@ -10,39 +10,40 @@ use Rattle.evring.specs.declared.way.Way.TheVariants.{Fore, Back}
 use Rattle.evring.specs.declared.reason.Reason.{Reason}
 use Rattle.histbook.specs.declared.look_entry.LookEntry.{LookEntry}
 use Rattle.prio_budget.specs.declared.free.Free.{Free}
-use Rattle.streamdefs.specs.Both.{Both, of_way}
+use Rattle.streamdefs.specs.Both.{Both}
 use Rattle.streamdefs.specs.Lists.{is_empty}
 use Rattle.streamdefs.specs.Terms.{Terms}
 use Rattle.streamdefs.specs.Reorder.{Charge}
-use Rattle.streamdefs.specs.View.{Ask as Request, charge_of}
+use Rattle.streamdefs.specs.View.{charge_of}
 use Rattle.streamdefs.specs.Pending.{Piece, Pending, nothing_pending, last_bytes}
-use Rattle.streamdefs.specs.Direction.{Direction, Kind, Next, direction_after, next_by, is_cut, last_pending, pending_by, view_after, hole_after, asks_by, pieces_by}
+use Rattle.streamdefs.specs.Direction.{Direction, Kind, Next, direction_after, next_by, is_cut, last_pending, view_after, hole_after, asks_by}
 use Rattle.streamdefs.specs.Direction.Next.{Asks, Gives, Rests as Wants_nothing}
 use Rattle.streamdefs.specs.Direction.Deed.{Falls_due}
-use Rattle.streamdefs.specs.Convo.{Act, Event as EventMade, Kept as KeptPiece, carrying, kind_of, is_live, after, events_in, ending}
+use Rattle.streamdefs.specs.Convo.{Act, Event as EventMade, carrying, kind_of, is_live, after, events_in}
 use Rattle.streamdefs.specs.Convo.Event.{Chunk as ChunkMade}
 use Rattle.streamdefs.specs.Convo.Act.{Time}
-use Rattle.streamdefs.specs.Want.{want, next_move, or_next}
-use Rattle.flowdir.specs.Boundary.{Phase as DirPhase, IsStep}
-use Rattle.flowdir.specs.Boundary.Phase.{Rests as DirRests, Works}
+use Rattle.streamdefs.specs.Want.{next_move, or_next}
+use Rattle.flowdir.specs.Boundary.{IsStep}
+use Rattle.flowdir.specs.Boundary.Phase.{Rests as DirRests}
 use Rattle.convo.specs.Seen.{kept_for, IsWant}
 use Rattle.convo.specs.Halves.{HandsBy}
 use Rattle.convo.specs.Talk.{Talk, IsWantOf, SetsUp, talk_after}
 use Rattle.convo.specs.Standing.{HandsOver, IsLeft, IsMidway, IsQuiet, IsResting, closing_by, done_of, left_by, news, ends, own_of}
 use Rattle.convo.specs.Stands.{Stands, IsMoving}
-use Rattle.convo.specs.Timings.{IsTiming, IsTimeDone, IsUnfinished, asks_due, pieces_due, spares_due, finished_time, owed_by_time}
+use Rattle.convo.specs.Timings.{IsTimeDone, IsUnfinished, asks_due, pieces_due, spares_due, finished_time, owed_by_time}
 use Rattle.convo.specs.Timings.IsTiming.{Times_fore, Times_back}
 use Rattle.convo.specs.declared.talk.Convo.{Convo}
 use Rattle.convo.specs.declared.stage.Stage.TheVariants as at
 use Rattle.convo.specs.declared.moment.Moment.{Moment}
 use Rattle.convo.specs.declared.want.Want.{Want}
-use Rattle.convo.specs.declared.want.Want.TheVariants.{Ask, Free as FreeWant, Emit, Rest}
+use Rattle.convo.specs.declared.want.Want.TheVariants.{Ask, Free as FreeWant}
 use Rattle.flowdir.specs.declared.step.Step.TheVariants.{Ask as AskStep, Free as FreeStep, Done as DoneStep}
 use Rattle.flowdir.specs.declared.counts.Counts.{Counts}
 use Rattle.convo.proofs.DefSteps.{want_asks, want_gives}
 use Rattle.convo.proofs.OwedSteps.{closing_is, mark_is}
 use Rattle.convo.proofs.SegSteps.{is_empty_append}
-use Rattle.convo.proofs.TimeSteps.{ask_within, back_move, cut_same, gives_within_due, own_looks, rest_behind, time_move}
+use Rattle.convo.proofs.Settling.{settled_after}
+use Rattle.convo.proofs.TimeSteps.{back_move, cut_same, own_looks, rest_behind, time_move}
 use Rattle.convo.proofs.TurnSteps.{hands_turn}
 
 -- a direction behind its moves, whatever looks follow its own
@@ -105,6 +106,8 @@ module _ {C : Type 0} (paid : C → Charge) (t : Terms) where
             ended_is = q.plain.ended_is;
             owed_is = ap (λ closed. owed_by_time (is_live c) closed) (closing_is t set x (after t c act) m s q.plain.origin_is q.plain.own_is)
                 ∙ ap (λ e. owed_by_time (is_none e) (closing_by (done_of x set Fore df) (done_of x set Back db) m)) q.plain.ended_is ∙ sym (o df db pf pb fore_is back_is);
+            early = q.plain.early;
+            settled = record { fore = settled_after t kd c.directions.fore (Falls_due m looks); back = settled_after t kd c.directions.back (Falls_due m (drop (length (asks_by t kd c.directions.fore (Falls_due m looks))) looks)) };
           };
           kinds = d.kinds;
           fore_hands = subst (λ f. HandsBy paid (DirStands paid x.fore.dir df DirRests) f pf) (sym q.fore_first) fore_is;

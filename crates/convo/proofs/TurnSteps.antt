@@ -1,27 +1,22 @@
 -- What a call answers is the entry's next want.
-use Rattle.std.proofs.Common.{rules, ◌≡◌, refl, sym, ◌∙◌, ap, subst, ℕ, suc, ◌+◌, Bool, true, false, not, cond, List, [], ◌∷◌, ◌++◌, map, drop, length, Option, Some, None, is_none, arith, inl, inr, zero}
-use Rattle.std.specs.Prelude.{◌&&◌, slice_get, ◌⊎◌}
-use Rattle.histbook.specs.declared.look_entry.LookEntry.{LookEntry}
-use Rattle.prio_budget.specs.declared.free.Free.{Free}
+use Rattle.std.proofs.Common.{◌≡◌, refl, sym, subst, ℕ, suc, Bool, true, false, cond, List, [], ◌∷◌, drop, Some, None, inl, inr, zero}
+use Rattle.std.specs.Prelude.{slice_get}
 use Rattle.streamdefs.specs.Terms.{Terms}
 use Rattle.streamdefs.specs.Packet.{Packet as Accepted}
 use Rattle.streamdefs.specs.Reorder.{Charge}
-use Rattle.streamdefs.specs.Pending.{Piece}
-use Rattle.streamdefs.specs.Direction.{Direction, Kind, Next}
+use Rattle.streamdefs.specs.Direction.{Next}
 use Rattle.streamdefs.specs.Direction.Next.{Asks, Gives, Rests as Wants_nothing}
 use Rattle.streamdefs.specs.Convo.{Act, Convo as Made, Event as EventMade, events_in, is_live, after, own_after, keep_after, answered_event}
 use Rattle.streamdefs.specs.Lists.{or_else}
 use Rattle.streamdefs.specs.Convo.Act.{Seg, Answer, Time, End}
-use Rattle.streamdefs.specs.Want.{Want as Wanted, want, next_move}
+use Rattle.streamdefs.specs.Want.{want, next_move}
 use Rattle.streamdefs.specs.Want.Want.{Emit as EmitWanted}
 use Rattle.convo.specs.Talk.Phase.{Under}
-use Rattle.flowdir.specs.Boundary.{Phase as DirPhase}
-use Rattle.convo.specs.Seen.{IsWant, IsEvent}
+use Rattle.convo.specs.Seen.{IsWant}
 use Rattle.convo.specs.Talk.{Talk, IsWantOf, talk_after}
-use Rattle.convo.specs.Standing.{HandsOver, IsResting, IsLeft, IsEmitting}
+use Rattle.convo.specs.Standing.{HandsOver, IsResting, IsLeft}
 use Rattle.convo.specs.Stands.{Stands, IsMoving}
 use Rattle.convo.specs.declared.talk.Convo.{Convo}
-use Rattle.evring.specs.declared.event.Event.{Event}
 use Rattle.convo.specs.declared.want.Want.{Want}
 use Rattle.convo.specs.declared.want.Want.TheVariants.{Ask, Free as FreeWant, Emit, Rest}
 use Rattle.convo.proofs.DefSteps.{want_asks, want_gives, want_emits, want_rests}

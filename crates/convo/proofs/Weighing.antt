@@ -1,5 +1,5 @@
 -- Sums over lists that are put behind others.
-use Rattle.std.proofs.Common.{◌≡◌, refl, ℕ, ◌+◌, List, [], ◌∷◌, ◌++◌, arith}
+use Rattle.std.proofs.Common.{◌≡◌, ℕ, ◌+◌, List, [], ◌∷◌, ◌++◌, arith}
 use Rattle.chunkpart.specs.ChunkParts.{ChunkParts}
 use Rattle.convo.specs.Weights.{weight_of_chunks}
 

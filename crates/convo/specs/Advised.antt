@@ -1,7 +1,6 @@
 -- An answer that comes back.
-use Rattle.std.specs.Prelude.{◌≡◌, ⊤, ℕ, suc, ◌<◌, Bool, cond, List, [], length, map, drop, Option, Some, None}
+use Rattle.std.specs.Prelude.{◌≡◌, ℕ, suc, ◌<◌, cond, List, [], length, map, drop, Option, Some, None}
 use Rattle.evring.specs.declared.advice.Advice.{Advice}
-use Rattle.histbook.specs.declared.look_entry.LookEntry.{LookEntry}
 use Rattle.prio_budget.specs.declared.free.Free.{Free}
 use Rattle.cutclass.specs.declared.cut.Cut.{Cut}
 use Rattle.cutclass.specs.declared.cut.Cut.TheVariants as cuts
@@ -9,11 +8,8 @@ use Rattle.streamdefs.specs.Both.{Both, both, with_way}
 use Rattle.streamdefs.specs.Lists.{or_else}
 use Rattle.streamdefs.specs.Terms.{Terms}
 use Rattle.streamdefs.specs.Reorder.{Charge}
-use Rattle.streamdefs.specs.Pending.{Piece}
-use Rattle.streamdefs.specs.Direction.{Direction, Kind}
-use Rattle.streamdefs.specs.Convo.{Convo as Made, given_back, answered_event}
+use Rattle.streamdefs.specs.Convo.{given_back, answered_event}
 use Rattle.streamdefs.specs.Convo.Act.{Answer as AnswerAct}
-use Rattle.flowdir.specs.Boundary.{Phase as DirPhase}
 use Rattle.convo.specs.Going.{charges_going}
 use Rattle.convo.specs.Talk.{Talk, talk_after}
 use Rattle.convo.specs.Standing.{IsResting, own_of}

@@ -1,16 +1,15 @@
 -- An End under way.
 use Rattle.convo.specs.Directions.{DirStands}
-use Rattle.std.specs.Prelude.{◌≡◌, ⊤, ℕ, suc, ◌+◌, ◌<◌, ◌≤◌, Bool, true, false, cond, not, ◌⊎◌, List, [], ◌∷◌, ◌++◌, length, map, drop, Option, Some, None}
+use Rattle.std.specs.Prelude.{◌≡◌, ℕ, suc, ◌+◌, ◌<◌, false, cond, not, List, [], length, map, drop, None}
 use Rattle.evring.specs.declared.way.Way.TheVariants.{Fore, Back}
 use Rattle.evring.specs.declared.reason.Reason.{Reason}
 use Rattle.streamdefs.specs.Lists.{is_empty}
 use Rattle.streamdefs.specs.Terms.{Terms}
 use Rattle.streamdefs.specs.Reorder.{Charge}
 use Rattle.streamdefs.specs.Pending.{Piece}
-use Rattle.streamdefs.specs.Direction.{Direction, Kind, direction_after, pieces_by, spares_by}
+use Rattle.streamdefs.specs.Direction.{Direction, direction_after, pieces_by, spares_by}
 use Rattle.streamdefs.specs.Direction.Deed.{Ends}
 use Rattle.streamdefs.specs.Convo.{Convo as Made, Kept as KeptPiece, kind_of, charges_of}
-use Rattle.flowdir.specs.Boundary.{Phase as DirPhase}
 use Rattle.flowdir.specs.Boundary.Phase.{Rests as DirRests, Works}
 use Rattle.convo.specs.Seen.{kept_for}
 use Rattle.convo.specs.Going.{charges_going}

@@ -1,7 +1,6 @@
 -- The charges of chunks that go back.
 use Rattle.evring.specs.Charges.{charges_of_all}
-use Rattle.std.specs.Prelude.{◌≡◌, ℕ, ◌+◌, List, [], ◌∷◌, ◌++◌, map, drop}
-use Rattle.chunkpart.specs.ChunkParts.{ChunkParts, parts_of}
+use Rattle.std.specs.Prelude.{ℕ, ◌+◌, List, [], ◌∷◌, drop}
 use Rattle.convo.specs.declared.going.Going.{Going}
 
 -- those that go back

@@ -1,10 +1,12 @@
 pub mod Directions
+pub mod Settled
 pub mod Seen
 pub mod Weights
 pub mod Talk
 pub mod Halves
 pub mod Going
 pub mod Standing
+pub mod Left
 pub mod Endings
 pub mod Advised
 pub mod Timings

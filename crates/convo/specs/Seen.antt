@@ -1,14 +1,10 @@
 -- Chunks, events and settings as the definitions see them.
-use Rattle.std.specs.Prelude.{◌≡◌, ⊤, ℕ, List, [], ◌∷◌, ◌++◌, map, flat_map, Option, Some, None, find, option_map}
+use Rattle.std.specs.Prelude.{◌≡◌, ⊤, map}
 use Rattle.chunkpart.specs.ChunkParts.{ChunkParts, parts_of, shown_bytes}
-use Rattle.evring.specs.declared.way.Way.{Way}
-use Rattle.evring.specs.declared.reason.Reason.{Reason}
-use Rattle.streamkey.specs.declared.key.Key.{Key}
 use Rattle.streamkey.specs.Key.{source_of, target_of}
 use Rattle.streamdefs.specs.Reorder.{Charge}
-use Rattle.streamdefs.specs.View.{Ask as Request}
 use Rattle.streamdefs.specs.Packet.{Packet as Accepted}
-use Rattle.streamdefs.specs.Convo.{Kept as KeptPiece, Event as EventMade, Delivery}
+use Rattle.streamdefs.specs.Convo.{Kept as KeptPiece, Event as EventMade}
 use Rattle.streamdefs.specs.Convo.Event.{New as NewMade, Chunk as ChunkMade, Ended as EndedMade}
 use Rattle.streamdefs.specs.Want.{Want as Wanted}
 use Rattle.streamdefs.specs.Want.Want.{Reserve, Release, Emit as EmitWanted, Rest as RestWanted}

@@ -1,15 +1,12 @@
 -- What is kept of a conversation, and what it stands for.
 use Rattle.convo.specs.Directions.{DirStands, dir_kind, dir_asked}
 use Rattle.flowdir.specs.Kept.{Kept as DirKept}
-use Rattle.std.specs.Prelude.{◌≡◌, ⊤, ℕ, suc, ◌+◌, ◌≤◌, Bool, true, false, cond, not, ◌&&◌, ◌||◌, nat_le, is_none, max, ◌⊎◌, List, [], ◌∷◌, ◌++◌, length, map, drop, Option, Some, None}
+use Rattle.std.specs.Prelude.{◌≡◌, ⊤, ℕ, ◌+◌, ◌≤◌, ◌^◌, Bool, true, false, cond, not, ◌&&◌, ◌||◌, nat_le, is_none, max, List, [], ◌∷◌, ◌++◌, map, drop, Option, Some, None}
 use Rattle.evring.specs.declared.way.Way.{Way}
 use Rattle.evring.specs.declared.way.Way.TheVariants.{Fore, Back}
 use Rattle.evring.specs.declared.reason.Reason.{Reason}
 use Rattle.evring.specs.declared.reason.Reason.TheVariants.{Closed, Reset}
 use Rattle.flowdir.specs.declared.counts.Counts.{Counts}
-use Rattle.histbook.specs.declared.look_entry.LookEntry.{LookEntry}
-use Rattle.prio_budget.specs.declared.free.Free.{Free}
-use Rattle.chunkpart.specs.ChunkParts.{ChunkParts}
 use Rattle.streamdefs.specs.Lists.{is_empty}
 use Rattle.streamdefs.specs.Both.{Both, of_way}
 use Rattle.cutclass.specs.declared.cut.Cut.{Cut}
@@ -21,22 +18,19 @@ use Rattle.streamdefs.specs.Packet.{Packet as Accepted, has_rst, has_syn, has_fi
 use Rattle.convo.specs.declared.convo_set.ConvoSet.{ConvoSet}
 use Rattle.streamdefs.specs.Reorder.{Charge}
 use Rattle.streamdefs.specs.Pending.{Piece}
-use Rattle.streamdefs.specs.Direction.{Direction, Kind, Next, Segment}
-use Rattle.streamdefs.specs.Direction.Deed.{Arrives, Falls_due, Ends}
-use Rattle.streamdefs.specs.Direction.Next.{Asks, Gives, Rests as Wants_nothing}
-use Rattle.streamdefs.specs.Convo.{Act, Convo as Made, Event as EventMade, Kept as KeptPiece, carrying, kind_of, way_of, class_of, class_cutoff, class_priority, segment_of, events_in, after}
+use Rattle.streamdefs.specs.Direction.{Direction, Kind, Segment}
+use Rattle.streamdefs.specs.Direction.Next.{Rests as Wants_nothing}
+use Rattle.streamdefs.specs.Convo.{Act, Event as EventMade, Kept as KeptPiece, carrying, kind_of, class_cutoff, class_priority, events_in}
 use Rattle.streamdefs.specs.Convo.Event.{New as NewMade, Chunk as ChunkMade, Ended as EndedMade}
-use Rattle.streamdefs.specs.Convo.Act.{Seg, Answer, Time, End}
 use Rattle.streamdefs.specs.Want.{next_move}
-use Rattle.flowdir.specs.Boundary.{Phase as DirPhase}
-use Rattle.flowdir.specs.Boundary.Phase.{Rests as DirRests, Works}
+use Rattle.flowdir.specs.Boundary.Phase.{Rests as DirRests}
 use Rattle.convo.specs.Seen.{kept_for, IsEvent}
+use Rattle.convo.specs.Settled.{AreSettled}
 use Rattle.convo.specs.declared.want.Want.{Want}
 use Rattle.convo.specs.declared.want.Want.TheVariants.{Ask, Free as FreeWant, Emit, Rest}
 use Rattle.convo.specs.Halves.{Hands, weight_of_half}
 use Rattle.convo.specs.Going.{charges_going, weight_of_charges}
-use Rattle.convo.specs.Talk.{Talk, Phase, talk_after, kept_count}
-use Rattle.convo.specs.Talk.Phase.{Still, Under}
+use Rattle.convo.specs.Talk.{Talk, talk_after, kept_count}
 use Rattle.convo.specs.declared.half.Half.{Half}
 use Rattle.convo.specs.declared.talk.Convo.{Convo}
 use Rattle.convo.specs.declared.origin.Origin.{Origin}
@@ -73,6 +67,8 @@ pub record IsPlain (t : Terms) (origin : Origin) (own : Both Cut) (advised : Opt
   pub clock_is : k.convo.clock ≡ clock
   pub ended_is : k.convo.ended ≡ ended
   pub owed_is : k.owed ≡ owed
+  pub early : clock ≤ 2 ^ 62
+  pub settled : AreSettled t k.convo.directions
 
 -- the cutoffs that advice set
 abbrev pub own_of : {C : Type 0} → Convo C → Both Cut
@@ -213,11 +209,17 @@ counts_with a b = record {
   shed = kept_count (a.shed + b.shed);
 }
 
+-- the moment of a segment under way can be added to
+abbrev pub IsSoon : Stage → Type 0
+IsSoon (at.Segment way now reset) = now ≤ 2 ^ 62
+IsSoon _ = ⊤
+
 -- a direction is at work at an entry, the other one rests
 pub record IsMidway {C : Type 0} (paid : C → Charge) (t : Terms) (x : Convo C) (k : Talk) (way : Way) : Type 0 where
   pub quiet : IsQuiet paid t x k
   pub kinds : HasKind (kind_of t k.convo) x.fore.dir x.back.dir
   pub there : DirStands paid (half_of (other way) x).dir (of_way (other way) k.convo.directions) DirRests []
+  pub soon : IsSoon x.stage
 
 -- the bytes of the ask that waits
 abbrev pub asked_at : {C : Type 0} → Convo C → Stage → Option ℕ

@@ -1,19 +1,17 @@
 -- What a conversation stands for.
 use Rattle.convo.specs.Directions.{DirStands}
-use Rattle.std.specs.Prelude.{◌≡◌, ⊤, ℕ, suc, ◌⊎◌, List, [], length}
+use Rattle.std.specs.Prelude.{◌≡◌, ⊤, suc, ◌⊎◌, [], length}
 use Rattle.streamdefs.specs.Both.{of_way}
 use Rattle.streamdefs.specs.Terms.{Terms}
 use Rattle.streamdefs.specs.Packet.{has_rst}
 use Rattle.streamdefs.specs.Reorder.{Charge}
-use Rattle.streamdefs.specs.Pending.{Piece}
-use Rattle.streamdefs.specs.Direction.{Direction, Kind, Next}
-use Rattle.streamdefs.specs.Direction.Deed.{Arrives, Falls_due, Ends}
+use Rattle.streamdefs.specs.Direction.{Next}
+use Rattle.streamdefs.specs.Direction.Deed.{Arrives}
 use Rattle.streamdefs.specs.Direction.Next.{Asks, Gives, Rests as Wants_nothing}
 use Rattle.streamdefs.specs.Convo.{Act, way_of, segment_of}
 use Rattle.streamdefs.specs.Convo.Act.{Seg, Answer, Time, End}
 use Rattle.streamdefs.specs.Want.{next_move}
-use Rattle.flowdir.specs.Boundary.{Phase as DirPhase}
-use Rattle.flowdir.specs.Boundary.Phase.{Rests as DirRests, Works}
+use Rattle.flowdir.specs.Boundary.Phase.{Works}
 use Rattle.convo.specs.Talk.{Talk, Phase}
 use Rattle.convo.specs.Talk.Phase.{Still, Under}
 use Rattle.convo.specs.Standing.{IsEmitting, IsMidway, IsResting, half_of}

@@ -1,30 +1,28 @@
 -- A conversation after a prefix of its history, with the End that its last entry made due and its sums; and an entry of it.
-use Rattle.std.specs.Prelude.{◌≡◌, ⊤, ℕ, ◌+◌, ◌-◌, ◌^◌, ◌≤◌, Bool, true, false, cond, nat_le, List, [], ◌∷◌, ◌++◌, length, map, filter, Option, Some, None, not, min, option_map}
+use Rattle.std.specs.Prelude.{◌≡◌, ⊤, ℕ, ◌-◌, ◌^◌, ◌≤◌, Bool, true, false, cond, nat_le, List, [], ◌∷◌, ◌++◌, length, map, filter, Option, Some, None, min, option_map}
 use Rattle.evring.specs.declared.way.Way.{Way}
 use Rattle.evring.specs.declared.way.Way.TheVariants.{Fore, Back}
 use Rattle.evring.specs.declared.advice.Advice.{Advice}
 use Rattle.evring.specs.declared.reason.Reason.{Reason}
-use Rattle.histbook.specs.declared.look_entry.LookEntry.{LookEntry}
 use Rattle.streamkey.specs.declared.key.Key.{Key}
 use Rattle.streamkey.specs.declared.toward.Toward.{Toward}
 use Rattle.cutclass.specs.declared.class_rule.ClassRule.{ClassRule}
 use Rattle.cutclass.specs.InForce.{Class, first_class}
-use Rattle.overpolicy.specs.declared.mode.Mode.{Mode}
 use Rattle.convo.specs.declared.convo_set.ConvoSet.{ConvoSet}
-use Rattle.streamdefs.specs.Both.{Both, both, same_way, of_way}
+use Rattle.streamdefs.specs.Both.{Both, both, same_way}
 use Rattle.streamdefs.specs.Terms.{Terms}
 use Rattle.streamdefs.specs.Packet.{Packet as Accepted}
 use Rattle.streamdefs.specs.Reorder.{Charge}
 use Rattle.streamdefs.specs.View.{Gap}
 use Rattle.streamdefs.specs.Direction.{Counts, no_counts}
-use Rattle.streamdefs.specs.Convo.{Act, Convo, Event as EventMade, Kept as KeptPiece, Delivery, new_convo, after, ending, counts_in, deliveries_in, kept_of, charges_of, answered_event, time_dues, idle_dues}
+use Rattle.streamdefs.specs.Convo.{Act, Convo, Event as EventMade, Kept as KeptPiece, new_convo, after, ending, counts_in, deliveries_in, kept_of, charges_of, answered_event, time_dues, idle_dues}
 use Rattle.streamdefs.specs.Convo.Event.{New as NewMade, Chunk as ChunkMade, Ended as EndedMade}
 use Rattle.streamdefs.specs.Convo.Act.{Seg, Answer as AnswerAct, Time, End}
 use Rattle.streamdefs.specs.Totals.{plus, gaps_before}
 use Rattle.streamdefs.specs.Lists.{total}
 use Rattle.flowdir.specs.declared.counts.Counts.{Counts as KeptCounts}
 use Rattle.convo.specs.declared.dir_total.DirTotal.{DirTotal}
-use Rattle.streamdefs.specs.Want.{Want as Wanted, want}
+use Rattle.streamdefs.specs.Want.{want}
 use Rattle.streamdefs.specs.Want.Want.{Rest as RestWanted}
 use Rattle.flowdir.specs.Boundary.{HasShape, IsTimely, least_of}
 use Rattle.convo.specs.Seen.{IsWant, kept_for}
@@ -39,9 +37,11 @@ use Rattle.convo.specs.declared.answered_event.AnsweredEvent.TheVariants as answ
 abbrev pub given_by : ClassRule → Class
 given_by rule = record { priority = rule.priority; cutoff = rule.cut }
 
--- settings as the definitions have them
+-- settings as the definitions have them, with times that can be added to a moment
 pub record SetsUp (set : ConvoSet) (t : Terms) : Type 0 where
   pub shape : HasShape set.shape t
+  pub timely : IsTimely set.shape
+  pub patient : set.shape.idle ≤ 2 ^ 62
   pub mode : t.mode ≡ set.shape.mode
   pub idle : t.idle ≡ set.shape.idle
   pub default : t.default ≡ set.cutoffs.default

@@ -1,6 +1,6 @@
 -- A moment that is due, under way.
 use Rattle.convo.specs.Directions.{DirStands}
-use Rattle.std.specs.Prelude.{◌≡◌, ⊤, ℕ, suc, ◌+◌, ◌<◌, ◌≤◌, Bool, true, false, cond, List, [], ◌∷◌, ◌++◌, length, Option, Some, None}
+use Rattle.std.specs.Prelude.{◌≡◌, ⊤, ℕ, ◌+◌, ◌≤◌, Bool, cond, List, [], ◌++◌, length, Option, None}
 use Rattle.evring.specs.declared.way.Way.TheVariants.{Fore, Back}
 use Rattle.evring.specs.declared.reason.Reason.{Reason}
 use Rattle.histbook.specs.declared.look_entry.LookEntry.{LookEntry}
@@ -11,8 +11,7 @@ use Rattle.streamdefs.specs.Pending.{Piece}
 use Rattle.streamdefs.specs.Direction.{Direction, Kind, Next, direction_after, asks_by, next_by, pieces_by, spares_by}
 use Rattle.streamdefs.specs.Direction.Next.{Asks, Gives, Rests}
 use Rattle.streamdefs.specs.Direction.Deed.{Falls_due}
-use Rattle.streamdefs.specs.Convo.{Convo as Made, kind_of}
-use Rattle.flowdir.specs.Boundary.{Phase as DirPhase}
+use Rattle.streamdefs.specs.Convo.{kind_of}
 use Rattle.flowdir.specs.Boundary.Phase.{Rests as DirRests, Works}
 use Rattle.convo.specs.Talk.{Talk}
 use Rattle.convo.specs.Standing.{HasKind, IsMidway, IsQuiet}

@@ -1,5 +1,5 @@
 -- Charges summed by a weight.
-use Rattle.std.specs.Prelude.{◌≡◌, ℕ, ◌+◌, List, [], ◌∷◌, Option, Some, None, Result, Ok, Err}
+use Rattle.std.specs.Prelude.{ℕ, ◌+◌, List, [], ◌∷◌}
 use Rattle.chunkpart.specs.ChunkParts.{ChunkParts, parts_of}
 use Rattle.flowdir.specs.Boundary.{weight_of_parts}
 use Rattle.evring.specs.declared.event.Event.{Event}

@@ -11,6 +11,7 @@ ghost use Rattle.streamdefs.specs.Want.{want, with_look, with_free};
 ghost use Rattle.streamdefs.specs.Want.Want.{Reserve, Release, Emit as EmitWanted};
 ghost use Rattle.flowdir.specs.Boundary.{IsLookOf, IsTimely, charge_by, weight_of};
 ghost use Rattle.convo.specs.Weights.{weight_of_want};
+ghost use Rattle.convo.specs.Left.{Lowers};
 ghost use Rattle.convo.specs.Going.{charges_going};
 ghost use Rattle.convo.specs.Talk.{Talk, SetsUp, IsWantOf, asked_in};
 ghost use Rattle.convo.specs.Talk.Phase.{Under};
@@ -43,6 +44,7 @@ impl<C: Charge> Convo<C> {
         ensures idle { IfOk result (λ want. IsRest want → charges_going self.new.going ≡ []) }
         ensures within { IfOk result (IsAskWithin set.now.marks.limit) }
         ensures last { last_of self.new ≡ last_of self.old }
+        ensures left { IfOk result (λ want. Lowers granted self.old self.new) }
         ensures weight { IfOk result (λ want. (w : C → ℕ) → weight_of_convo w self.new + weight_of_want w want ≡ weight_of_convo w self.old + weight_of w granted) }
         ensures err { OnErr result ((w : C → ℕ) → weight_of_convo w self.new ≡ weight_of_convo w self.old + weight_of w granted) }
     {
@@ -53,7 +55,7 @@ impl<C: Charge> Convo<C> {
         }
     }
 
-    /// The ask is answered: granted by a charge, or refused.
+    /// The ask is answered: granted by a charge, or refused. Answered with want of memory where nothing is under way.
     #[tactic(auto, using(crate::proofs::Within::any_limit))]
     pub fn told(&mut self, set: &ConvoSet, granted: Option<C>) -> Result<Want<C>, Memory>
         requires granted { IfSome granted (λ charge. asked_of self.old ≡ Some (C.amount charge)) }
@@ -64,6 +66,7 @@ impl<C: Charge> Convo<C> {
         ensures idle { IfOk result (λ want. IsRest want → charges_going self.new.going ≡ []) }
         ensures within { IfOk result (IsAskWithin set.now.marks.limit) }
         ensures last { last_of self.new ≡ last_of self.old }
+        ensures left { IfOk result (λ want. Lowers granted self.old self.new) }
         ensures weight { IfOk result (λ want. (w : C → ℕ) → weight_of_convo w self.new + weight_of_want w want ≡ weight_of_convo w self.old + weight_of w granted) }
         ensures err { OnErr result ((w : C → ℕ) → weight_of_convo w self.new ≡ weight_of_convo w self.old + weight_of w granted) }
     {
@@ -75,7 +78,7 @@ impl<C: Charge> Convo<C> {
             Stage::Unshown { .. } => Ok(self.rest()),
             Stage::Answered => Ok(self.rest()),
             Stage::Events => Ok(self.rest()),
-            Stage::Resting => Ok(self.rest()),
+            Stage::Resting => Err(Memory),
         }
     }
 
@@ -90,6 +93,7 @@ impl<C: Charge> Convo<C> {
         ensures idle { IfOk result (λ want. IsRest want → charges_going self.new.going ≡ []) }
         ensures within { IfOk result (IsAskWithin set.now.marks.limit) }
         ensures last { last_of self.new ≡ last_of self.old }
+        ensures left { IfOk result (λ want. Lowers {C = C} None self.old self.new) }
         ensures weight { IfOk result (λ want. (w : C → ℕ) → weight_of_convo w self.new + weight_of_want w want ≡ weight_of_convo w self.old) }
         ensures err { OnErr result ((w : C → ℕ) → weight_of_convo w self.new ≡ weight_of_convo w self.old) }
     {
@@ -97,7 +101,7 @@ impl<C: Charge> Convo<C> {
         Ok(self.give_next())
     }
 
-    /// The charge was given back.
+    /// The charge was given back. Answered with want of memory where nothing is under way.
     #[tactic(auto, using(crate::proofs::Within::any_limit))]
     pub fn freed(&mut self, set: &ConvoSet) -> Result<Want<C>, Memory>
         ensures turn { IfOk result (λ w. (t : Terms) (k : Talk) (act : Act) (emitted : ℕ) (free : Free) (charge : ChargeMade) → SetsUp set.now t
@@ -107,6 +111,7 @@ impl<C: Charge> Convo<C> {
         ensures idle { IfOk result (λ want. IsRest want → charges_going self.new.going ≡ []) }
         ensures within { IfOk result (IsAskWithin set.now.marks.limit) }
         ensures last { last_of self.new ≡ last_of self.old }
+        ensures left { IfOk result (λ want. Lowers {C = C} None self.old self.new) }
         ensures weight { IfOk result (λ want. (w : C → ℕ) → weight_of_convo w self.new + weight_of_want w want ≡ weight_of_convo w self.old) }
         ensures err { OnErr result ((w : C → ℕ) → weight_of_convo w self.new ≡ weight_of_convo w self.old) }
     {
@@ -136,11 +141,11 @@ impl<C: Charge> Convo<C> {
             } => self.freed_unshown_back(set, at, reason),
             Stage::Answered => self.freed_answered(set),
             Stage::Events => Ok(self.rest()),
-            Stage::Resting => Ok(self.rest()),
+            Stage::Resting => Err(Memory),
         }
     }
 
-    /// The event was handed over.
+    /// The event was handed over. Answered with want of memory where nothing is under way.
     #[tactic(auto, using(crate::proofs::Within::any_limit))]
     pub fn emitted(&mut self, set: &ConvoSet) -> Result<Want<C>, Memory>
         ensures turn { IfOk result (λ w. (t : Terms) (k : Talk) (act : Act) (emitted : ℕ) (event : EventMade) → SetsUp set.now t
@@ -150,12 +155,14 @@ impl<C: Charge> Convo<C> {
         ensures idle { IfOk result (λ want. IsRest want → charges_going self.new.going ≡ []) }
         ensures within { IfOk result (IsAskWithin set.now.marks.limit) }
         ensures last { last_of self.new ≡ last_of self.old }
+        ensures left { IfOk result (λ want. Lowers {C = C} None self.old self.new) }
         ensures weight { IfOk result (λ want. (w : C → ℕ) → weight_of_convo w self.new + weight_of_want w want ≡ weight_of_convo w self.old) }
         ensures err { OnErr result ((w : C → ℕ) → weight_of_convo w self.new ≡ weight_of_convo w self.old) }
     {
         let _ = set;
         match self.stage {
             Stage::Events => Ok(self.emitted_event()),
+            Stage::Resting => Err(Memory),
             _ => {
                 self.stage = Stage::Resting;
                 Ok(self.rest())

@@ -1,6 +1,6 @@
 // One direction of a conversation at work.
-ghost use Rattle.convo.specs.Directions.{DirStands, dir_kind, dir_asked, dir_weight};
-ghost use Rattle.std.specs.Prelude.{◌≡◌, ⊤, ℕ, suc, ◌+◌, ◌<◌, ◌≤◌, ◌^◌, [], ◌∷◌, List, length, Option, Some, None, IfOk, IfSome, OnOk, OnErr};
+ghost use Rattle.convo.specs.Directions.{DirFalls, DirStands, IsAskedBehind, dir_kind, dir_asked, dir_weight};
+ghost use Rattle.std.specs.Prelude.{◌≡◌, ⊤, ℕ, suc, ◌+◌, ◌*◌, ◌<◌, ◌≤◌, ◌^◌, [], ◌∷◌, List, length, Option, Some, None, IfOk, IfSome, OnOk, OnErr};
 ghost use Rattle.histbook.specs.declared.look_entry.LookEntry.{LookEntry};
 ghost use Rattle.streamdefs.specs.Terms.{Terms};
 ghost use Rattle.streamdefs.specs.Reorder.{Charge as ChargeMade};
@@ -11,7 +11,9 @@ ghost use Rattle.streamdefs.specs.Direction.Deed.{Arrives, Falls_due, Ends};
 ghost use Rattle.streamdefs.specs.Direction.Next.{Asks, Gives};
 ghost use Rattle.flowdir.specs.Boundary.{AsksSome, HasShape, IsStep, IsLookOf, IsTimely, charge_by, asked_by, weight_of, weight_of_step};
 ghost use Rattle.flowdir.specs.Boundary.Phase.{Rests as DirRests, Works};
+ghost use Rattle.convo.specs.Left.{Adds, Lowers};
 ghost use Rattle.convo.specs.Seen.{packet_of};
+ghost use Rattle.convo.specs.Settled.{IsSettled};
 ghost use Rattle.convo.specs.Standing.{arrival, half_of, with_dir, weight_of_convo};
 
 use crate::flags::{has_fin, has_rst, has_syn};
@@ -36,6 +38,7 @@ impl<C: Charge> Convo<C> {
         ensures same { self.new ≡ with_dir way (half_of way self.new).dir self.old }
         ensures asked { IfOk result (λ step. dir_asked (half_of way self.new).dir ≡ asked_by step) }
         ensures some { IfOk result AsksSome }
+        ensures left { IfOk result (λ step. Adds (2 * length packet.entry.now.payload) (112 * length packet.entry.now.payload + 24) self.old self.new) }
         ensures kind { dir_kind (half_of way self.new).dir ≡ dir_kind (half_of way self.old).dir }
         ensures last { OnOk result ((half_of way self.new).dir.last ≡ packet.entry.now.number) }
         ensures weight { IfOk result (λ step. (w : C → ℕ) → dir_weight w (half_of way self.new).dir + weight_of_step w step ≡ dir_weight w (half_of way self.old).dir) }
@@ -73,6 +76,7 @@ impl<C: Charge> Convo<C> {
         ensures same { self.new ≡ with_dir way (half_of way self.new).dir self.old }
         ensures asked { IfOk result (λ step. dir_asked (half_of way self.new).dir ≡ asked_by step) }
         ensures some { IfOk result AsksSome }
+        ensures left { IfOk result (λ step. Lowers granted self.old self.new) }
         ensures kind { dir_kind (half_of way self.new).dir ≡ dir_kind (half_of way self.old).dir }
         ensures last { (half_of way self.new).dir.last ≡ (half_of way self.old).dir.last }
         ensures weight { IfOk result (λ step. (w : C → ℕ) → dir_weight w (half_of way self.new).dir + weight_of_step w step ≡ dir_weight w (half_of way self.old).dir + weight_of w granted) }
@@ -91,6 +95,7 @@ impl<C: Charge> Convo<C> {
         ensures same { self.new ≡ with_dir way (half_of way self.new).dir self.old }
         ensures asked { IfOk result (λ step. dir_asked (half_of way self.new).dir ≡ asked_by step) }
         ensures some { IfOk result AsksSome }
+        ensures left { IfOk result (λ step. Lowers {C = C} None self.old self.new) }
         ensures kind { dir_kind (half_of way self.new).dir ≡ dir_kind (half_of way self.old).dir }
         ensures last { (half_of way self.new).dir.last ≡ (half_of way self.old).dir.last }
         ensures weight { IfOk result (λ step. (w : C → ℕ) → dir_weight w (half_of way self.new).dir + weight_of_step w step ≡ dir_weight w (half_of way self.old).dir) }
@@ -105,11 +110,12 @@ impl<C: Charge> Convo<C> {
     /// A moment is due in a direction.
     pub(crate) fn time_way(&mut self, set: &ConvoSet, way: Way, at: u64) -> Result<Step<C>, Memory>
         requires at { at ≤ 2 ^ 62 }
-        ensures step { IfOk result (λ step. (t : Terms) (d : Direction) (pieces : List Piece) → HasShape set.now.shape t → DirStands (charge_by C.amount C.stamp) (half_of way self.old).dir d DirRests pieces
-            → IsStep (charge_by C.amount C.stamp) (DirStands (charge_by C.amount C.stamp) (half_of way self.new).dir) t (dir_kind (half_of way self.old).dir) d (Falls_due at []) 0 pieces step) }
+        ensures step { IfOk result (λ step. (t : Terms) (d : Direction) → HasShape set.now.shape t → IsSettled t d → DirStands (charge_by C.amount C.stamp) (half_of way self.old).dir d DirRests []
+            → IsStep (charge_by C.amount C.stamp) (DirStands (charge_by C.amount C.stamp) (half_of way self.new).dir) t (dir_kind (half_of way self.old).dir) d (Falls_due at []) 0 [] step) }
         ensures same { self.new ≡ with_dir way (half_of way self.new).dir self.old }
-        ensures asked { IfOk result (λ step. dir_asked (half_of way self.new).dir ≡ asked_by step) }
+        ensures asked { IfOk result (IsAskedBehind (half_of way self.new).dir) }
         ensures some { IfOk result AsksSome }
+        ensures left { IfOk result (DirFalls set.now.shape.hole set.now.shape.flush at (half_of way self.old).dir (half_of way self.new).dir) }
         ensures kind { dir_kind (half_of way self.new).dir ≡ dir_kind (half_of way self.old).dir }
         ensures last { (half_of way self.new).dir.last ≡ (half_of way self.old).dir.last }
         ensures weight { IfOk result (λ step. (w : C → ℕ) → dir_weight w (half_of way self.new).dir + weight_of_step w step ≡ dir_weight w (half_of way self.old).dir) }
@@ -129,6 +135,7 @@ impl<C: Charge> Convo<C> {
         ensures same { self.new ≡ with_dir way (half_of way self.new).dir self.old }
         ensures asked { IfOk result (λ step. dir_asked (half_of way self.new).dir ≡ asked_by step) }
         ensures some { IfOk result AsksSome }
+        ensures left { IfOk result (λ step. Adds 0 0 self.old self.new) }
         ensures kind { dir_kind (half_of way self.new).dir ≡ dir_kind (half_of way self.old).dir }
         ensures last { (half_of way self.new).dir.last ≡ (half_of way self.old).dir.last }
         ensures weight { IfOk result (λ step. (w : C → ℕ) → dir_weight w (half_of way self.new).dir + weight_of_step w step ≡ dir_weight w (half_of way self.old).dir) }

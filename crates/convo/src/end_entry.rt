@@ -18,6 +18,7 @@ ghost use Rattle.streamdefs.specs.Convo.{Act, kind_of};
 ghost use Rattle.streamdefs.specs.Convo.Act.{End as EndAct};
 ghost use Rattle.flowdir.specs.Boundary.{AsksSome, IsStep, charge_by, asked_by, weight_of_step};
 ghost use Rattle.convo.specs.Weights.{weight_of_chunks, weight_of_want};
+ghost use Rattle.convo.specs.Left.{Adds, Gives, Lowers, grants_left, stage_work, work_left};
 ghost use Rattle.convo.specs.Going.{charges_going};
 ghost use Rattle.convo.specs.Halves.{Hands, weight_of_half};
 ghost use Rattle.convo.specs.Talk.{Talk, SetsUp, IsWantOf, asked_in};
@@ -44,6 +45,7 @@ impl<C: Charge> Convo<C> {
         ensures own { (half_of way self.new).own ≡ (half_of way self.old).own }
         ensures kind { dir_kind (half_of way self.new).dir ≡ dir_kind (half_of way self.old).dir }
         ensures last { (half_of way self.new).dir.last ≡ (half_of way self.old).dir.last }
+        ensures left { Gives (length (charges_of_all result)) (half_of way self.old) (half_of way self.new) }
         ensures weight { (w : C → ℕ) → weight_of_half w (half_of way self.new) + weight_of_chunks w result ≡ weight_of_half w (half_of way self.old) }
     {
         match way {
@@ -63,6 +65,8 @@ impl<C: Charge> Convo<C> {
         ensures own { (half_of way self.new).own ≡ (half_of way self.old).own }
         ensures kind { dir_kind (half_of way self.new).dir ≡ dir_kind (half_of way self.old).dir }
         ensures last { (half_of way self.new).dir.last ≡ (half_of way self.old).dir.last }
+        ensures left { grants_left self.new ≤ grants_left self.old }
+        ensures work { work_left self.new + stage_work self.old.stage ≤ work_left self.old + stage_work self.new.stage }
         ensures weight { (w : C → ℕ) → weight_of_convo w self.new ≡ weight_of_convo w self.old }
     {
         let kept = self.unshown_way(way);
@@ -90,6 +94,8 @@ impl<C: Charge> Convo<C> {
         ensures idle { IsRest result → charges_going self.new.going ≡ [] }
         ensures within { (limit : ℕ) → IsAskWithin limit result }
         ensures last { (self.new.fore.dir.last ≡ self.old.fore.dir.last) × (self.new.back.dir.last ≡ self.old.back.dir.last) }
+        ensures left { Lowers {C = C} None self.old self.new }
+        ensures busy { IsRest result → ⊥ }
         ensures weight { (w : C → ℕ) → weight_of_convo w self.new + weight_of_want w result ≡ weight_of_convo w self.old }
     {
         if let Some(charge) = self.going.next() {
@@ -118,6 +124,8 @@ impl<C: Charge> Convo<C> {
         ensures idle { IsRest result → charges_going self.new.going ≡ [] }
         ensures within { IsAskWithin set.now.marks.limit result }
         ensures last { (self.new.fore.dir.last ≡ self.old.fore.dir.last) × (self.new.back.dir.last ≡ self.old.back.dir.last) }
+        ensures left { Adds 0 0 self.old self.new }
+        ensures busy { IsRest result → ⊥ }
         ensures weight { (w : C → ℕ) → weight_of_convo w self.new + weight_of_want w result ≡ weight_of_convo w self.old + weight_of_step w step }
     {
         match step {
@@ -140,6 +148,9 @@ impl<C: Charge> Convo<C> {
         ensures idle { IsRest result → charges_going self.new.going ≡ [] }
         ensures within { (limit : ℕ) → IsAskWithin limit result }
         ensures last { (self.new.fore.dir.last ≡ self.old.fore.dir.last) × (self.new.back.dir.last ≡ self.old.back.dir.last) }
+        ensures left { grants_left self.new ≤ grants_left self.old }
+        ensures work { work_left self.new + stage_work self.old.stage ≤ work_left self.old + 2 }
+        ensures busy { IsRest result → ⊥ }
         ensures weight { (w : C → ℕ) → weight_of_convo w self.new + weight_of_want w result ≡ weight_of_convo w self.old }
     {
         if let Some(charge) = self.going.next() {
@@ -165,6 +176,9 @@ impl<C: Charge> Convo<C> {
         ensures idle { IfOk result (λ want. IsRest want → charges_going self.new.going ≡ []) }
         ensures within { IfOk result (IsAskWithin set.now.marks.limit) }
         ensures last { (self.new.fore.dir.last ≡ self.old.fore.dir.last) × (self.new.back.dir.last ≡ self.old.back.dir.last) }
+        ensures left { IfOk result (λ want. grants_left self.new ≤ grants_left self.old) }
+        ensures work { IfOk result (λ want. work_left self.new + stage_work self.old.stage ≤ work_left self.old + 4) }
+        ensures busy { IfOk result (λ want. IsRest want → ⊥) }
         ensures weight { IfOk result (λ want. (w : C → ℕ) → weight_of_convo w self.new + weight_of_want w want ≡ weight_of_convo w self.old) }
         ensures err { OnErr result ((w : C → ℕ) → weight_of_convo w self.new ≡ weight_of_convo w self.old) }
     {
@@ -193,6 +207,8 @@ impl<C: Charge> Convo<C> {
         ensures idle { IfOk result (λ want. IsRest want → charges_going self.new.going ≡ []) }
         ensures within { IfOk result (IsAskWithin set.now.marks.limit) }
         ensures last { (self.new.fore.dir.last ≡ self.old.fore.dir.last) × (self.new.back.dir.last ≡ self.old.back.dir.last) }
+        ensures left { IfOk result (λ want. Lowers {C = C} None self.old self.new) }
+        ensures busy { IfOk result (λ want. IsRest want → ⊥) }
         ensures weight { IfOk result (λ want. (w : C → ℕ) → weight_of_convo w self.new + weight_of_want w want ≡ weight_of_convo w self.old) }
         ensures err { OnErr result ((w : C → ℕ) → weight_of_convo w self.new ≡ weight_of_convo w self.old) }
     {
@@ -218,6 +234,9 @@ impl<C: Charge> Convo<C> {
         ensures idle { IfOk result (λ want. IsRest want → charges_going self.new.going ≡ []) }
         ensures within { IfOk result (IsAskWithin set.now.marks.limit) }
         ensures last { (self.new.fore.dir.last ≡ self.old.fore.dir.last) × (self.new.back.dir.last ≡ self.old.back.dir.last) }
+        ensures left { IfOk result (λ want. grants_left self.new ≤ grants_left self.old) }
+        ensures work { IfOk result (λ want. work_left self.new + stage_work self.old.stage ≤ work_left self.old + 4) }
+        ensures busy { IfOk result (λ want. IsRest want → ⊥) }
         ensures weight { IfOk result (λ want. (w : C → ℕ) → weight_of_convo w self.new + weight_of_want w want ≡ weight_of_convo w self.old) }
         ensures err { OnErr result ((w : C → ℕ) → weight_of_convo w self.new ≡ weight_of_convo w self.old) }
     {
@@ -248,6 +267,8 @@ impl<C: Charge> Convo<C> {
         ensures idle { IfOk result (λ want. IsRest want → charges_going self.new.going ≡ []) }
         ensures within { IfOk result (IsAskWithin set.now.marks.limit) }
         ensures last { (self.new.fore.dir.last ≡ self.old.fore.dir.last) × (self.new.back.dir.last ≡ self.old.back.dir.last) }
+        ensures left { IfOk result (λ want. Adds 0 0 self.old self.new) }
+        ensures busy { IfOk result (λ want. IsRest want → ⊥) }
         ensures weight { IfOk result (λ want. (w : C → ℕ) → weight_of_convo w self.new + weight_of_want w want ≡ weight_of_convo w self.old + weight_of_step w step) }
         ensures err { OnErr result ((w : C → ℕ) → weight_of_convo w self.new ≡ weight_of_convo w self.old + weight_of_step w step) }
     {
@@ -261,7 +282,7 @@ impl<C: Charge> Convo<C> {
         }
     }
 
-    /// It ends.
+    /// It ends. It has something to tell at least: its end.
     pub fn end(&mut self, set: &ConvoSet, at: u64, reason: Reason) -> Result<Want<C>, Memory>
         requires at { at ≤ 2 ^ 62 }
         ensures turn { IfOk result (λ want. (t : Terms) (k : Talk) → SetsUp set.now t → IsResting (charge_by C.amount C.stamp) t self.old k
@@ -270,6 +291,8 @@ impl<C: Charge> Convo<C> {
         ensures idle { IfOk result (λ want. IsRest want → charges_going self.new.going ≡ []) }
         ensures within { IfOk result (IsAskWithin set.now.marks.limit) }
         ensures last { (self.new.fore.dir.last ≡ self.old.fore.dir.last) × (self.new.back.dir.last ≡ self.old.back.dir.last) }
+        ensures left { IfOk result (λ want. Adds 0 6 self.old self.new) }
+        ensures busy { IfOk result (λ want. IsRest want → ⊥) }
         ensures weight { IfOk result (λ want. (w : C → ℕ) → weight_of_convo w self.new + weight_of_want w want ≡ weight_of_convo w self.old) }
         ensures err { OnErr result ((w : C → ℕ) → weight_of_convo w self.new ≡ weight_of_convo w self.old) }
     {
@@ -298,6 +321,7 @@ impl<C: Charge> Convo<C> {
         ensures idle { IfOk result (λ want. IsRest want → charges_going self.new.going ≡ []) }
         ensures within { IfOk result (IsAskWithin set.now.marks.limit) }
         ensures last { (self.new.fore.dir.last ≡ self.old.fore.dir.last) × (self.new.back.dir.last ≡ self.old.back.dir.last) }
+        ensures left { IfOk result (λ want. Lowers {C = C} None self.old self.new) }
         ensures weight { IfOk result (λ want. (w : C → ℕ) → weight_of_convo w self.new + weight_of_want w want ≡ weight_of_convo w self.old) }
         ensures err { OnErr result ((w : C → ℕ) → weight_of_convo w self.new ≡ weight_of_convo w self.old) }
     {
@@ -320,6 +344,7 @@ impl<C: Charge> Convo<C> {
         ensures idle { IfOk result (λ want. IsRest want → charges_going self.new.going ≡ []) }
         ensures within { IfOk result (IsAskWithin set.now.marks.limit) }
         ensures last { (self.new.fore.dir.last ≡ self.old.fore.dir.last) × (self.new.back.dir.last ≡ self.old.back.dir.last) }
+        ensures left { IfOk result (λ want. Lowers {C = C} None self.old self.new) }
         ensures weight { IfOk result (λ want. (w : C → ℕ) → weight_of_convo w self.new + weight_of_want w want ≡ weight_of_convo w self.old) }
         ensures err { OnErr result ((w : C → ℕ) → weight_of_convo w self.new ≡ weight_of_convo w self.old) }
     {
@@ -341,6 +366,7 @@ impl<C: Charge> Convo<C> {
         ensures idle { IfOk result (λ want. IsRest want → charges_going self.new.going ≡ []) }
         ensures within { IfOk result (IsAskWithin set.now.marks.limit) }
         ensures last { (self.new.fore.dir.last ≡ self.old.fore.dir.last) × (self.new.back.dir.last ≡ self.old.back.dir.last) }
+        ensures left { IfOk result (λ want. Lowers {C = C} None self.old self.new) }
         ensures weight { IfOk result (λ want. (w : C → ℕ) → weight_of_convo w self.new + weight_of_want w want ≡ weight_of_convo w self.old) }
         ensures err { OnErr result ((w : C → ℕ) → weight_of_convo w self.new ≡ weight_of_convo w self.old) }
     {
@@ -364,6 +390,7 @@ impl<C: Charge> Convo<C> {
         ensures idle { IfOk result (λ want. IsRest want → charges_going self.new.going ≡ []) }
         ensures within { IfOk result (IsAskWithin set.now.marks.limit) }
         ensures last { (self.new.fore.dir.last ≡ self.old.fore.dir.last) × (self.new.back.dir.last ≡ self.old.back.dir.last) }
+        ensures left { IfOk result (λ want. Lowers {C = C} None self.old self.new) }
         ensures weight { IfOk result (λ want. (w : C → ℕ) → weight_of_convo w self.new + weight_of_want w want ≡ weight_of_convo w self.old) }
         ensures err { OnErr result ((w : C → ℕ) → weight_of_convo w self.new ≡ weight_of_convo w self.old) }
     {

@@ -1,8 +1,11 @@
 ghost use Rattle.convo.specs.Directions.{dir_kind};
-ghost use Rattle.std.specs.Prelude.{◌≡◌, ℕ, ◌+◌, List, [], not, cond, None, IsNone, IfSome};
+ghost use Rattle.std.specs.Prelude.{◌≡◌, ℕ, ◌+◌, ◌*◌, length, List, [], not, cond, None, IsNone, IfSome};
 ghost use Rattle.streamdefs.specs.Direction.{Direction};
 ghost use Rattle.streamdefs.specs.Pending.{Piece};
 ghost use Rattle.streamdefs.specs.Lists.{is_empty};
+ghost use Rattle.evring.specs.Charges.{charges_of_all};
+ghost use Rattle.flowdir.specs.Left.{count_of};
+ghost use Rattle.convo.specs.Left.{Gives};
 ghost use Rattle.convo.specs.Weights.{weight_of_chunks};
 ghost use Rattle.flowdir.specs.Boundary.{charge_by, IsFirst, weight_of_chunk};
 ghost use Rattle.convo.specs.Halves.{Hands, HandsFirst, KeptIs, weight_of_half, weight_of_taken};
@@ -37,6 +40,7 @@ impl<C: Charge> Half<C> {
         ensures kind { dir_kind self.new.dir ≡ dir_kind self.old.dir }
         ensures last { self.new.dir.last ≡ self.old.dir.last }
         ensures none { IsNone result → self.new.first ≡ None }
+        ensures left { Gives (8 * count_of result) self.old self.new }
         ensures weight { (w : C → ℕ) → weight_of_half w self.new + weight_of_chunk w result ≡ weight_of_half w self.old }
     {
         if let Some(chunk) = self.first.take() {
@@ -53,6 +57,7 @@ impl<C: Charge> Half<C> {
         ensures kind { dir_kind self.new.dir ≡ dir_kind self.old.dir }
         ensures last { self.new.dir.last ≡ self.old.dir.last }
         ensures none { IsNone result → self.new.first ≡ None }
+        ensures left { Gives (8 * count_of result) self.old self.new }
         ensures weight { (w : C → ℕ) → weight_of_half w self.new + weight_of_taken w result ≡ weight_of_half w self.old }
     {
         let chunk = self.hand()?;
@@ -72,6 +77,7 @@ impl<C: Charge> Half<C> {
         ensures same { self.new ≡ record self.old { dir = self.new.dir; first = self.new.first } }
         ensures kind { dir_kind self.new.dir ≡ dir_kind self.old.dir }
         ensures last { self.new.dir.last ≡ self.old.dir.last }
+        ensures left { Gives 0 self.old self.new }
         ensures weight { (w : C → ℕ) → weight_of_half w self.new ≡ weight_of_half w self.old }
     {
         if self.first.is_some() {
@@ -88,6 +94,7 @@ impl<C: Charge> Half<C> {
         ensures own { self.new.own ≡ self.old.own }
         ensures kind { dir_kind self.new.dir ≡ dir_kind self.old.dir }
         ensures last { self.new.dir.last ≡ self.old.dir.last }
+        ensures left { Gives (length (charges_of_all result)) self.old self.new }
         ensures weight { (w : C → ℕ) → weight_of_half w self.new + weight_of_chunks w result ≡ weight_of_half w self.old }
     {
         if self.look() {

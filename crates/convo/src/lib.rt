@@ -26,8 +26,6 @@ mod segment_entry;
 mod stage;
 mod start;
 mod talk;
-#[cfg(test)]
-mod tests;
 mod time_entry;
 mod want;
 

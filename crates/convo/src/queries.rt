@@ -1,9 +1,10 @@
 // What can be asked of a conversation that rests.
-ghost use Rattle.std.specs.Prelude.{◌≡◌, ◌+◌, ◌<◌, ◌^◌, [], List, not, Option, Some, None};
+ghost use Rattle.std.specs.Prelude.{◌≡◌, ℕ, false, IfSome, ◌+◌, ◌≤◌, ◌^◌, [], List, not, Option, Some, None};
 ghost use Rattle.streamdefs.specs.Terms.{Terms};
 ghost use Rattle.streamdefs.specs.Both.{of_way};
 ghost use Rattle.streamdefs.specs.Convo.{has_other_base, is_live, time_dues};
-ghost use Rattle.flowdir.specs.Boundary.{IsTimely, charge_by, least_of, number_of};
+ghost use Rattle.flowdir.specs.Boundary.{charge_by, least_of, number_of};
+ghost use Rattle.convo.specs.Left.{due_at};
 ghost use Rattle.convo.specs.Seen.{packet_of};
 ghost use Rattle.convo.specs.Talk.{Talk, SetsUp, due_of, sooner_of};
 ghost use Rattle.convo.specs.Standing.{IsResting, least_by};
@@ -45,8 +46,8 @@ fn sooner(time: Option<u64>, idle: u64) -> (u64, bool)
 impl<C: Charge> Convo<C> {
     /// When it falls due, and whether for its End of `idle`.
     pub fn due(&self, set: &ConvoSet) -> Option<(u64, bool)>
-        requires timely { IsTimely set.now.shape }
-        ensures { (t : Terms) (k : Talk) → SetsUp set.now t → IsResting (charge_by C.amount C.stamp) t self.now k → k.convo.clock + t.idle < 2 ^ 64 → result ≡ due_of t k.convo }
+        ensures stands { (t : Terms) (k : Talk) → SetsUp set.now t → IsResting (charge_by C.amount C.stamp) t self.now k → result ≡ due_of t k.convo }
+        ensures at { (at : ℕ) → result ≡ Some (at, false) → due_at set.now.shape.hole set.now.shape.flush self.now ≡ Some at }
     {
         match self.ended {
             Some(_) => None,
@@ -70,14 +71,17 @@ impl<C: Charge> Convo<C> {
         self.ended.is_some()
     }
 
-    /// When a hole or a flush falls due.
+    /// When a hole or a flush falls due. None where a time of the settings can't be added to a moment.
     pub fn time_due(&self, set: &ConvoSet) -> Option<u64>
-        requires timely { IsTimely set.now.shape }
-        ensures { (t : Terms) (k : Talk) → SetsUp set.now t → IsResting (charge_by C.amount C.stamp) t self.now k → result ≡ least_of (time_dues t k.convo) }
+        ensures stands { (t : Terms) (k : Talk) → SetsUp set.now t → IsResting (charge_by C.amount C.stamp) t self.now k → result ≡ least_of (time_dues t k.convo) }
+        ensures at { IfSome result (λ at. due_at set.now.shape.hole set.now.shape.flush self.now ≡ Some at) }
     {
         match self.ended {
             Some(_) => None,
             None => {
+                if !direction::is_timely(&set.shape) {
+                    return None;
+                }
                 let fore = direction::due(&self.fore.dir, &set.shape);
                 let back = direction::due(&self.back.dir, &set.shape);
                 lesser(fore, back)

@@ -1,10 +1,11 @@
 // A conversation before its first entry.
-ghost use Rattle.convo.specs.Directions.{DirStands, dir_kind, dir_asked};
+ghost use Rattle.convo.specs.Directions.{DirStands, dir_grants, dir_kind, dir_asked};
 ghost use Rattle.std.specs.Prelude.{◌≡◌, ℕ, [], option_map, Some, None};
 ghost use Rattle.cutclass.specs.InForce.{first_class};
 ghost use Rattle.streamdefs.specs.Terms.{Terms};
 ghost use Rattle.streamdefs.specs.Direction.{untouched};
 ghost use Rattle.flowdir.specs.Boundary.Phase.{Rests};
+ghost use Rattle.convo.specs.Left.{grants_left, work_left, work_of_half};
 ghost use Rattle.convo.specs.Halves.{weight_of_half};
 ghost use Rattle.streamdefs.specs.Convo.{new_convo, class_cutoff, class_priority, kind_of as made_kind};
 ghost use Rattle.flowdir.specs.Boundary.{charge_by, kind_of};
@@ -72,6 +73,8 @@ impl<C: Charge> Half<C> {
         ensures asked { dir_asked result.dir ≡ None }
         ensures last { result.dir.last ≡ 0 }
         ensures bare { (result.own ≡ Cut.Unset) × (result.kept ≡ []) × (result.first ≡ None) }
+        ensures grants { dir_grants result.dir ≡ 0 }
+        ensures work { work_of_half result ≡ 0 }
         ensures weight { (w : C → ℕ) → weight_of_half w result ≡ 0 }
     {
         Half {
@@ -99,6 +102,8 @@ impl<C: Charge> Convo<C> {
         ensures asked { asked_of result ≡ None }
         ensures idle { charges_going result.going ≡ [] }
         ensures last { last_of result ≡ 0 }
+        ensures grants { grants_left result ≡ 0 }
+        ensures work { work_left result ≡ 0 }
         ensures weight { (w : C → ℕ) → weight_of_convo w result ≡ 0 }
     {
         let mode = mode_of(set, first);

@@ -1,6 +1,6 @@
 // A moment that is due.
-ghost use Rattle.convo.specs.Directions.{DirStands, dir_asked};
-ghost use Rattle.std.specs.Prelude.{◌≡◌, ⊤, ℕ, suc, ◌+◌, ◌≤◌, ◌^◌, ◌++◌, [], ◌∷◌, List, length, is_none, cond, Option, Some, None, IfOk, IfSome, OnErr};
+ghost use Rattle.convo.specs.Directions.{DirStands, IsAskedBehind, dir_asked, dir_due, due_now, if_done};
+ghost use Rattle.std.specs.Prelude.{◌≡◌, ⊤, ℕ, suc, ◌+◌, ◌*◌, ◌≤◌, ◌^◌, ◌++◌, [], ◌∷◌, List, length, is_none, cond, Option, Some, None, IfOk, IfSome, OnErr};
 ghost use Rattle.histbook.specs.declared.look_entry.LookEntry.{LookEntry};
 ghost use Rattle.prio_budget.specs.declared.free.Free.{Free};
 ghost use Rattle.streamdefs.specs.Reorder.{Charge as ChargeMade};
@@ -17,6 +17,7 @@ ghost use Rattle.streamdefs.specs.Convo.Act.{Time as TimeAct};
 ghost use Rattle.flowdir.specs.Boundary.{AsksSome, IsLookOf, IsStep, IsTimely, weight_of, charge_by, asked_by, weight_of_step};
 ghost use Rattle.flowdir.specs.Boundary.Phase.{Rests as DirRests};
 ghost use Rattle.convo.specs.Weights.{weight_of_want};
+ghost use Rattle.convo.specs.Left.{Adds, Lowers, due_at, grants_left, stage_work, work_left};
 ghost use Rattle.convo.specs.Going.{charges_going};
 ghost use Rattle.convo.specs.Talk.{Talk, SetsUp, IsWantOf, asked_in};
 ghost use Rattle.convo.specs.Standing.{IsMidway, IsAskWithin, IsRest, IsResting, asked_of, closing_by, done_of, half_of, weight_of_convo};
@@ -55,10 +56,11 @@ impl<C: Charge> Convo<C> {
             → IsStep (charge_by C.amount C.stamp) (DirStands (charge_by C.amount C.stamp) self.old.back.dir) t (kind_of t k.convo) k.convo.directions.back (Falls_due at.at more) back [] step
             → length frees ≡ length (spares_due t (kind_of t k.convo) k.convo.directions.fore at.at) + back
             → IsWantOf (charge_by C.amount C.stamp) (Stands (charge_by C.amount C.stamp) self.new t) t k (TimeAct at.at (first ++ more) frees) 0 result }
-        ensures asked { dir_asked self.old.back.dir ≡ asked_by step → asked_of self.new ≡ asked_in result }
+        ensures asked { IsAskedBehind self.old.back.dir step → asked_of self.new ≡ asked_in result }
         ensures idle { IsRest result → charges_going self.new.going ≡ [] }
         ensures within { IsAskWithin set.now.marks.limit result }
         ensures last { (self.new.fore.dir.last ≡ self.old.fore.dir.last) × (self.new.back.dir.last ≡ self.old.back.dir.last) }
+        ensures left { Adds 0 0 self.old self.new }
         ensures weight { (w : C → ℕ) → weight_of_convo w self.new + weight_of_want w result ≡ weight_of_convo w self.old + weight_of_step w step }
     {
         match step {
@@ -83,6 +85,8 @@ impl<C: Charge> Convo<C> {
         ensures idle { IfOk result (λ want. IsRest want → charges_going self.new.going ≡ []) }
         ensures within { IfOk result (IsAskWithin set.now.marks.limit) }
         ensures last { (self.new.fore.dir.last ≡ self.old.fore.dir.last) × (self.new.back.dir.last ≡ self.old.back.dir.last) }
+        ensures left { IfOk result (λ want. grants_left self.new ≤ grants_left self.old) }
+        ensures due { IfOk result (λ want. work_left self.new + 8 * due_now at.at (dir_due set.now.shape.hole set.now.shape.flush self.old.back.dir) + stage_work self.old.stage ≤ work_left self.old + 2) }
         ensures weight { IfOk result (λ want. (w : C → ℕ) → weight_of_convo w self.new + weight_of_want w want ≡ weight_of_convo w self.old) }
         ensures err { OnErr result ((w : C → ℕ) → weight_of_convo w self.new ≡ weight_of_convo w self.old) }
     {
@@ -105,10 +109,12 @@ impl<C: Charge> Convo<C> {
             → IsStep (charge_by C.amount C.stamp) (DirStands (charge_by C.amount C.stamp) self.old.fore.dir) t (kind_of t k.convo) k.convo.directions.fore (Falls_due at.at looks) (length frees) [] step
             → length looks ≤ length (asks_due t (kind_of t k.convo) k.convo.directions.fore at.at) → length frees ≤ length (spares_due t (kind_of t k.convo) k.convo.directions.fore at.at)
             → IsWantOf (charge_by C.amount C.stamp) (Stands (charge_by C.amount C.stamp) self.new t) t k (TimeAct at.at looks frees) 0 want) }
-        ensures asked { IfOk result (λ want. dir_asked self.old.fore.dir ≡ asked_by step → asked_of self.new ≡ asked_in want) }
+        ensures asked { IfOk result (λ want. IsAskedBehind self.old.fore.dir step → asked_of self.new ≡ asked_in want) }
         ensures idle { IfOk result (λ want. IsRest want → charges_going self.new.going ≡ []) }
         ensures within { IfOk result (IsAskWithin set.now.marks.limit) }
         ensures last { (self.new.fore.dir.last ≡ self.old.fore.dir.last) × (self.new.back.dir.last ≡ self.old.back.dir.last) }
+        ensures left { IfOk result (λ want. grants_left self.new ≤ grants_left self.old) }
+        ensures due { IfOk result (λ want. work_left self.new + 8 * if_done step (due_now at.at (dir_due set.now.shape.hole set.now.shape.flush self.old.back.dir)) ≤ work_left self.old) }
         ensures weight { IfOk result (λ want. (w : C → ℕ) → weight_of_convo w self.new + weight_of_want w want ≡ weight_of_convo w self.old + weight_of_step w step) }
         ensures err { OnErr result ((w : C → ℕ) → weight_of_convo w self.new ≡ weight_of_convo w self.old + weight_of_step w step) }
     {
@@ -131,6 +137,8 @@ impl<C: Charge> Convo<C> {
         ensures idle { IfOk result (λ want. IsRest want → charges_going self.new.going ≡ []) }
         ensures within { IfOk result (IsAskWithin set.now.marks.limit) }
         ensures last { (self.new.fore.dir.last ≡ self.old.fore.dir.last) × (self.new.back.dir.last ≡ self.old.back.dir.last) }
+        ensures left { IfOk result (λ want. Adds 0 3 self.old self.new) }
+        ensures due { IfOk result (λ want. due_at set.now.shape.hole set.now.shape.flush self.old ≡ Some at → Lowers {C = C} None self.old self.new) }
         ensures weight { IfOk result (λ want. (w : C → ℕ) → weight_of_convo w self.new + weight_of_want w want ≡ weight_of_convo w self.old) }
         ensures err { OnErr result ((w : C → ℕ) → weight_of_convo w self.new ≡ weight_of_convo w self.old) }
     {
@@ -159,6 +167,7 @@ impl<C: Charge> Convo<C> {
         ensures idle { IfOk result (λ want. IsRest want → charges_going self.new.going ≡ []) }
         ensures within { IfOk result (IsAskWithin set.now.marks.limit) }
         ensures last { (self.new.fore.dir.last ≡ self.old.fore.dir.last) × (self.new.back.dir.last ≡ self.old.back.dir.last) }
+        ensures left { IfOk result (λ want. Lowers granted self.old self.new) }
         ensures weight { IfOk result (λ want. (w : C → ℕ) → weight_of_convo w self.new + weight_of_want w want ≡ weight_of_convo w self.old + weight_of w granted) }
         ensures err { OnErr result ((w : C → ℕ) → weight_of_convo w self.new ≡ weight_of_convo w self.old + weight_of w granted) }
     {
@@ -182,6 +191,7 @@ impl<C: Charge> Convo<C> {
         ensures idle { IfOk result (λ want. IsRest want → charges_going self.new.going ≡ []) }
         ensures within { IfOk result (IsAskWithin set.now.marks.limit) }
         ensures last { (self.new.fore.dir.last ≡ self.old.fore.dir.last) × (self.new.back.dir.last ≡ self.old.back.dir.last) }
+        ensures left { IfOk result (λ want. Lowers granted self.old self.new) }
         ensures weight { IfOk result (λ want. (w : C → ℕ) → weight_of_convo w self.new + weight_of_want w want ≡ weight_of_convo w self.old + weight_of w granted) }
         ensures err { OnErr result ((w : C → ℕ) → weight_of_convo w self.new ≡ weight_of_convo w self.old + weight_of w granted) }
     {
@@ -199,6 +209,7 @@ impl<C: Charge> Convo<C> {
         ensures idle { IfOk result (λ want. IsRest want → charges_going self.new.going ≡ []) }
         ensures within { IfOk result (IsAskWithin set.now.marks.limit) }
         ensures last { (self.new.fore.dir.last ≡ self.old.fore.dir.last) × (self.new.back.dir.last ≡ self.old.back.dir.last) }
+        ensures left { IfOk result (λ want. Lowers {C = C} None self.old self.new) }
         ensures weight { IfOk result (λ want. (w : C → ℕ) → weight_of_convo w self.new + weight_of_want w want ≡ weight_of_convo w self.old) }
         ensures err { OnErr result ((w : C → ℕ) → weight_of_convo w self.new ≡ weight_of_convo w self.old) }
     {
@@ -216,6 +227,7 @@ impl<C: Charge> Convo<C> {
         ensures idle { IfOk result (λ want. IsRest want → charges_going self.new.going ≡ []) }
         ensures within { IfOk result (IsAskWithin set.now.marks.limit) }
         ensures last { (self.new.fore.dir.last ≡ self.old.fore.dir.last) × (self.new.back.dir.last ≡ self.old.back.dir.last) }
+        ensures left { IfOk result (λ want. Lowers {C = C} None self.old self.new) }
         ensures weight { IfOk result (λ want. (w : C → ℕ) → weight_of_convo w self.new + weight_of_want w want ≡ weight_of_convo w self.old) }
         ensures err { OnErr result ((w : C → ℕ) → weight_of_convo w self.new ≡ weight_of_convo w self.old) }
     {

@@ -1,12 +1,10 @@
-use Rattle.std.proofs.Common.{[]}
-use Rattle.streamdefs.specs.Direction.Deed.{Falls_due}
-use Rattle.convo.specs.Directions.{dir_kind}
+use Rattle.std.proofs.Common.{refl, subst, []}
 use Rattle.flowdir.specs.Boundary.{charge_by}
-use Rattle.convo.proofs.DirSteps.{step_stands}
-use Rattle.convo.proofs.Results.{if_ok_map}
+use Rattle.convo.specs.Directions.{IsBehind, dir_kind}
+use Rattle.convo.proofs.Settling.{skip_step}
 use Rattle.convo.proofs.direction.time.Goals as goal
 
-pub returns-clause-step : goal.returns-clause-step
-returns-clause-step g c = if_ok_map c.time.result c.time.ensures.step (λ step h t d pieces s st.
-    let paid = charge_by g.C.Charge.amount g.C.Charge.stamp in
-    step_stands paid c.time.new.self t (dir_kind c.args.dir.now) d (Falls_due c.args.at []) 0 pieces step (h paid t d pieces s st.stands))
+pub returns-else-branch-clause-step : goal.returns-else-branch-clause-step
+returns-else-branch-clause-step g c = λ t d h s st.
+    let behind = subst (IsBehind c.args.at) (c.in_ok-is_due.ensures.stands t d [] h st) (c.in_ok-is_due.ensures.no c.if-branch.false) in
+    skip_step (charge_by g.C.Charge.amount g.C.Charge.stamp) t (dir_kind c.args.dir.now) d c.args.at c.args.dir.now _ s behind refl st

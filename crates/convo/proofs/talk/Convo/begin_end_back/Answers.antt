@@ -1,7 +1,6 @@
 use Rattle.convo.specs.Directions.{DirStands}
-use Rattle.std.proofs.Common.{rules, ◌≡◌, refl, sym, ◌∙◌, subst, [], arith, zero-le}
+use Rattle.std.proofs.Common.{sym, subst, [], arith}
 use Rattle.streamdefs.specs.Direction.Deed.{Ends}
-use Rattle.streamdefs.specs.Convo.{kind_of}
 use Rattle.flowdir.specs.Boundary.{IsStep, charge_by}
 use Rattle.convo.specs.Endings.{IsBetween}
 use Rattle.convo.proofs.EndSteps.{between_dir}

@@ -1,5 +1,5 @@
 use Rattle.convo.specs.Directions.{DirStands}
-use Rattle.std.proofs.Common.{◌≡◌, refl, sym, subst, [], ◌++◌, arith}
+use Rattle.std.proofs.Common.{sym, subst, [], arith}
 use mathlib.Core.List.{append-nil}
 use Rattle.streamdefs.specs.Direction.Deed.{Falls_due}
 use Rattle.streamdefs.specs.Convo.Act.{Time}
@@ -14,7 +14,7 @@ pub returns-clause-turn : goal.returns-clause-turn
 returns-clause-turn g c = λ t k looks frees s d there n.
     let paid = charge_by g.C.Charge.amount g.C.Charge.stamp in
     let x1 = c.time_way.new.self in
-    let step0 = c.in_ok-step.ensures.step t k.convo.directions.back [] s.shape there in
+    let step0 = c.in_ok-step.ensures.step t k.convo.directions.back s.shape d.quiet.plain.settled.back there in
     let step1 = subst (λ kd. IsStep paid (DirStands paid x1.back.dir) t kd k.convo.directions.back (Falls_due c.args.at.at []) 0 [] c.in_ok-step.step) d.kinds.back_is step0 in
     let d1 = subst (λ x. IsTimeDone paid t x k c.args.at.at looks) (sym c.in_ok-step.ensures.same)
     (done_dir paid t c.args.self.now x1.back.dir c.args.at k c.args.at.at looks c.in_ok-step.ensures.kind d) in

@@ -1,4 +1,3 @@
-use Rattle.std.proofs.Common.{rules, ◌≡◌, refl, sym, ◌∙◌, arith}
 use Rattle.convo.proofs.EndFreed.{freed_ends_back}
 use Rattle.convo.proofs.talk.Convo.freed_end_back.Goals as goal
 

@@ -1,4 +1,3 @@
-use Rattle.std.proofs.Common.{rules, ◌≡◌, refl, sym, ◌∙◌, arith}
 use Rattle.convo.proofs.EndFreed.{freed_ends_fore}
 use Rattle.convo.proofs.Results.{if_ok_map}
 use Rattle.convo.proofs.talk.Convo.freed_end_fore.Goals as goal

@@ -1,4 +1,3 @@
-use Rattle.std.proofs.Common.{rules, ◌≡◌, refl, sym, ◌∙◌, ap, subst, [], length}
 use Rattle.convo.proofs.SegTold.{freed_at}
 use Rattle.convo.proofs.talk.Convo.freed_segment.Goals as goal
 

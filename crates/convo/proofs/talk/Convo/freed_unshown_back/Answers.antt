@@ -1,4 +1,3 @@
-use Rattle.std.proofs.Common.{rules, ◌≡◌, refl, sym, ◌∙◌, arith}
 use Rattle.convo.proofs.EndFreed.{freed_leaves_back}
 use Rattle.convo.proofs.talk.Convo.freed_unshown_back.Goals as goal
 

@@ -1,4 +1,3 @@
-use Rattle.std.proofs.Common.{rules, ◌≡◌, refl, sym, ◌∙◌, arith}
 use Rattle.convo.proofs.EndFreed.{freed_leaves_fore}
 use Rattle.convo.proofs.Results.{if_ok_map}
 use Rattle.convo.proofs.talk.Convo.freed_unshown_fore.Goals as goal

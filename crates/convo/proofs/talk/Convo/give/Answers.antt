@@ -1,4 +1,4 @@
-use Rattle.std.proofs.Common.{rules, ◌≡◌, refl, sym, ◌∙◌, ap, map}
+use Rattle.std.proofs.Common.{◌∙◌, ap, map}
 use Rattle.flowdir.specs.Boundary.{charge_by}
 use Rattle.convo.proofs.talk.Convo.give.Goals as goal
 

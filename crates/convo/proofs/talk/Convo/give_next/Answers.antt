@@ -1,4 +1,4 @@
-use Rattle.std.proofs.Common.{rules, ◌≡◌, refl, sym, ◌∙◌}
+use Rattle.std.proofs.Common.{refl, sym, ◌∙◌}
 use Rattle.convo.proofs.BackSteps.{answer_gives, answer_rests}
 use Rattle.convo.proofs.talk.Convo.give_next.Goals as goal
 

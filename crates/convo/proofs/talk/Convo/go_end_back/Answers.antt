@@ -1,4 +1,4 @@
-use Rattle.std.proofs.Common.{rules, ◌≡◌, refl, sym, ◌∙◌, arith}
+use Rattle.std.proofs.Common.{arith}
 use Rattle.convo.proofs.EndSteps.{gives_back}
 use Rattle.convo.proofs.GivesSteps.{gives_past}
 use Rattle.convo.proofs.talk.Convo.go_end_back.Goals as goal

@@ -1,4 +1,4 @@
-use Rattle.std.proofs.Common.{rules, ◌≡◌, refl, sym, ◌∙◌, arith, length}
+use Rattle.std.proofs.Common.{arith, length}
 use Rattle.convo.proofs.EndSteps.{gives_fore}
 use Rattle.convo.proofs.GivesSteps.{gives_past}
 use Rattle.convo.proofs.Results.{if_ok_map}

@@ -1,4 +1,3 @@
-use Rattle.std.proofs.Common.{◌≡◌, refl}
 use Rattle.convo.proofs.TimeTurn.{back_asks, back_gives, time_done}
 use Rattle.convo.proofs.talk.Convo.go_time_back.Goals as goal
 

@@ -1,4 +1,3 @@
-use Rattle.std.proofs.Common.{◌≡◌, refl}
 use Rattle.convo.proofs.TimeTurn.{fore_asks, fore_gives, fore_done}
 use Rattle.convo.proofs.Results.{if_ok_map}
 use Rattle.convo.proofs.talk.Convo.go_time_fore.Goals as goal

@@ -1,4 +1,4 @@
-use Rattle.std.proofs.Common.{rules, ◌≡◌, ℕ, sym, subst, arith}
+use Rattle.std.proofs.Common.{ℕ, ap, cond, arith}
 use Rattle.convo.proofs.HandSteps.{hand_new, hand_fore, hand_back, none_fore}
 use Rattle.convo.proofs.talk.Convo.hand_over.Goals as goal
 
@@ -23,3 +23,20 @@ returns-in-Some-hand_over-clause-turn g c = λ t k events left.
 pub returns-in-Some-hand_over-clause-weight : goal.returns-in-Some-hand_over-clause-weight
 returns-in-Some-hand_over-clause-weight g c = λ w. rw (c.tell_chunk-in-Some-hand_over.ensures.want, c.tell_chunk-in-Some-hand_over.ensures.same)
     (let e = c.in_default.ensures.weight w in let f = c.in-Some-hand_over.ensures.weight w in omega arith)
+
+pub returns-then-self-clause-left : goal.returns-then-self-clause-left
+returns-then-self-clause-left g c = rw c.tell_new.ensures.same (let o = ap {B = ℕ} (λ b. cond b 1 0) c.if-self.true in record { grants_less = omega arith; work_less = omega arith })
+
+pub returns-in-Some-clause-left : goal.returns-in-Some-clause-left
+returns-in-Some-clause-left g c = rw c.tell_chunk.ensures.same (
+    let a = c.in-Some.ensures.left.grants_most in
+    let b = c.in-Some.ensures.left.work_most in
+    record { grants_less = omega arith; work_less = omega arith })
+
+pub returns-in-Some-hand_over-clause-left : goal.returns-in-Some-hand_over-clause-left
+returns-in-Some-hand_over-clause-left g c = rw c.tell_chunk-in-Some-hand_over.ensures.same (
+    let a = c.in_default.ensures.left.grants_most in
+    let b = c.in_default.ensures.left.work_most in
+    let d = c.in-Some-hand_over.ensures.left.grants_most in
+    let e = c.in-Some-hand_over.ensures.left.work_most in
+    record { grants_less = omega arith; work_less = omega arith })

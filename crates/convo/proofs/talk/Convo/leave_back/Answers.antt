@@ -1,4 +1,4 @@
-use Rattle.std.proofs.Common.{rules, ◌≡◌, refl, sym, ◌∙◌, arith}
+use Rattle.std.proofs.Common.{refl, sym, ◌∙◌, arith}
 use Rattle.convo.proofs.EndSteps.{between_going, leaves_at_back}
 use Rattle.convo.proofs.talk.Convo.leave_back.Goals as goal
 

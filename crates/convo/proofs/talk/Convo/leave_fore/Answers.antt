@@ -1,4 +1,4 @@
-use Rattle.std.proofs.Common.{rules, ◌≡◌, refl, sym, ◌∙◌, arith}
+use Rattle.std.proofs.Common.{refl, sym, ◌∙◌, arith}
 use Rattle.convo.proofs.EndSteps.{midway_going, leaves_at_fore}
 use Rattle.convo.proofs.Results.{if_ok_map}
 use Rattle.convo.proofs.talk.Convo.leave_fore.Goals as goal

@@ -1,9 +1,9 @@
-use Rattle.convo.specs.Directions.{DirStands}
-use Rattle.std.proofs.Common.{◌≡◌, refl, sym, ◌∙◌, ap, subst, [], map, arith}
+use Rattle.std.proofs.Common.{refl, sym, ◌∙◌, ap, [], map, length, arith}
 use Rattle.flowdir.specs.Boundary.{charge_by}
 use Rattle.cutclass.specs.declared.cut.Cut.TheVariants.{Unset}
 use Rattle.convo.specs.Seen.{kept_for}
 use Rattle.convo.specs.Going.{weight_of_charges}
+use Rattle.convo.proofs.Settling.{untouched_settled}
 use Rattle.convo.proofs.talk.Convo.new.Goals as goal
 
 pub returns-clause-stands : goal.returns-clause-stands
@@ -20,6 +20,8 @@ returns-clause-stands g c = λ t s.
           clock_is = refl;
           ended_is = refl;
           owed_is = refl;
+          early = c.args.first.now.timed;
+          settled = untouched_settled t;
         };
         kept = sym (ap (λ k. record { fore = map (kept_for paid) k; back = map (kept_for paid) c.new-2.result.kept }) fb.1 ∙ ap (λ k. record { fore = []; back = map (kept_for paid) k }) bb.1);
         begun = refl;
@@ -40,4 +42,11 @@ returns-clause-weight g c = λ w.
     let a = c.new.ensures.weight w in
     let b = c.new-2.ensures.weight w in
     let e = ap (weight_of_charges w) c.none.ensures in
+    omega arith
+
+pub returns-clause-work : goal.returns-clause-work
+returns-clause-work g c =
+    let a = c.new.ensures.work in
+    let b = c.new-2.ensures.work in
+    let e = ap length c.none.ensures in
     omega arith

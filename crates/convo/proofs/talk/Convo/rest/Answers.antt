@@ -1,4 +1,4 @@
-use Rattle.std.proofs.Common.{◌≡◌, refl, sym, ◌∙◌}
+use Rattle.std.proofs.Common.{refl, sym, ◌∙◌}
 use Rattle.convo.proofs.talk.Convo.rest.Goals as goal
 
 pub returns-clause-idle : goal.returns-clause-idle

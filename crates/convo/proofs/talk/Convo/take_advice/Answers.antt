@@ -1,4 +1,4 @@
-use Rattle.std.proofs.Common.{◌≡◌, ◌∙◌, ap, sym, subst, is_none, true}
+use Rattle.std.proofs.Common.{◌≡◌, ◌∙◌, ap, subst, is_none, true}
 use Rattle.streamdefs.specs.Convo.{is_live}
 use Rattle.flowdir.specs.Boundary.{charge_by}
 use Rattle.convo.specs.Talk.{IsOf}

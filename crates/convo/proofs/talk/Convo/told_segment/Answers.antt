@@ -1,4 +1,3 @@
-use Rattle.std.proofs.Common.{rules, ◌≡◌, refl, sym, ◌∙◌, ap, subst, [], length}
 use Rattle.convo.proofs.SegTold.{told_at}
 use Rattle.convo.proofs.talk.Convo.told_segment.Goals as goal
 

@@ -1,4 +1,4 @@
-use Rattle.std.proofs.Common.{rules, ◌≡◌, refl, sym, ◌∙◌}
+use Rattle.std.proofs.Common.{refl, sym, ◌∙◌}
 use Rattle.convo.proofs.EndSteps.{leaves_back, ends_told}
 use Rattle.convo.proofs.talk.Convo.unshown_back.Goals as goal
 
