@@ -32,12 +32,13 @@ use Rattle.convo.specs.declared.want.Want.TheVariants.{Free as FreeWant, Rest}
 use Rattle.convo.proofs.DefSteps.{want_gives, want_rests}
 use Rattle.convo.proofs.GoingSteps.{charges_all}
 use Rattle.convo.proofs.GivesSteps.{gives_head, gives_end, gives_in}
+use Rattle.convo.proofs.SumSteps.{counts_on}
 
 module _ {C : Type 0} (paid : C → Charge) (t : Terms) where
   resting_going : (x : Convo C) (spent going : Going C) (k : Talk) → charges_going going ≡ [] → IsResting paid t (record x { going = spent; stage = at.Resting }) k
       → IsResting paid t (record x { going = going; stage = at.Resting }) k
   resting_going x spent going k e r = record {
-    quiet = record { plain = r.quiet.plain; kept = r.quiet.kept; begun = r.quiet.begun; opens = r.quiet.opens; over = r.quiet.over; fore_first = r.quiet.fore_first; back_first = r.quiet.back_first; gone = e };
+    quiet = record { plain = r.quiet.plain; kept = r.quiet.kept; begun = r.quiet.begun; opens = r.quiet.opens; over = r.quiet.over; fore_first = r.quiet.fore_first; back_first = r.quiet.back_first; gone = e; fore_sums = r.quiet.fore_sums; back_sums = r.quiet.back_sums };
     kinds = r.kinds;
     fore = r.fore;
     back = r.back;
@@ -86,6 +87,8 @@ module _ {C : Type 0} (paid : C → Charge) (t : Terms) where
           fore_first = r.quiet.fore_first;
           back_first = r.quiet.back_first;
           gone = r.quiet.gone;
+          fore_sums = counts_on r.quiet.fore_sums refl;
+          back_sums = counts_on r.quiet.back_sums refl;
         };
         kinds = r.kinds;
         fore = r.fore;
@@ -122,6 +125,8 @@ module _ {C : Type 0} (paid : C → Charge) (t : Terms) where
           fore_first = r.quiet.fore_first;
           back_first = r.quiet.back_first;
           gone = r.quiet.gone;
+          fore_sums = counts_on r.quiet.fore_sums refl;
+          back_sums = counts_on r.quiet.back_sums refl;
         };
         kinds = record { fore_is = r.kinds.fore_is; back_is = r.kinds.back_is };
         fore = r.fore;

@@ -48,13 +48,13 @@ module _ {C : Type 0} (paid : C → Charge) (t : Terms) where
   pub midway_of : (k : Talk) (w : Way) (x : Convo C) (dir : DirKept C) (stage : Stage) → IsSoon stage → IsResting paid t x k → dir_kind dir ≡ dir_kind (half_of w (record x { stage = stage })).dir
       → IsMidway paid t (with_dir w dir (record x { stage = stage })) k w
   midway_of k Fore x dir stage n r e = record {
-    quiet = record { plain = r.quiet.plain; kept = r.quiet.kept; begun = r.quiet.begun; opens = r.quiet.opens; over = r.quiet.over; fore_first = r.quiet.fore_first; back_first = r.quiet.back_first; gone = r.quiet.gone };
+    quiet = record { plain = r.quiet.plain; kept = r.quiet.kept; begun = r.quiet.begun; opens = r.quiet.opens; over = r.quiet.over; fore_first = r.quiet.fore_first; back_first = r.quiet.back_first; gone = r.quiet.gone; fore_sums = r.quiet.fore_sums; back_sums = r.quiet.back_sums };
     kinds = record { fore_is = e ∙ r.kinds.fore_is; back_is = r.kinds.back_is };
     there = r.back;
     soon = n;
   }
   midway_of k Back x dir stage n r e = record {
-    quiet = record { plain = r.quiet.plain; kept = r.quiet.kept; begun = r.quiet.begun; opens = r.quiet.opens; over = r.quiet.over; fore_first = r.quiet.fore_first; back_first = r.quiet.back_first; gone = r.quiet.gone };
+    quiet = record { plain = r.quiet.plain; kept = r.quiet.kept; begun = r.quiet.begun; opens = r.quiet.opens; over = r.quiet.over; fore_first = r.quiet.fore_first; back_first = r.quiet.back_first; gone = r.quiet.gone; fore_sums = r.quiet.fore_sums; back_sums = r.quiet.back_sums };
     kinds = record { fore_is = r.kinds.fore_is; back_is = e ∙ r.kinds.back_is };
     there = r.fore;
     soon = n;
@@ -63,13 +63,13 @@ module _ {C : Type 0} (paid : C → Charge) (t : Terms) where
   -- it goes on
   pub midway_on : (k : Talk) (w : Way) (x : Convo C) (dir : DirKept C) → IsMidway paid t x k w → dir_kind dir ≡ dir_kind (half_of w x).dir → IsMidway paid t (with_dir w dir x) k w
   midway_on k Fore x dir m e = record {
-    quiet = record { plain = m.quiet.plain; kept = m.quiet.kept; begun = m.quiet.begun; opens = m.quiet.opens; over = m.quiet.over; fore_first = m.quiet.fore_first; back_first = m.quiet.back_first; gone = m.quiet.gone };
+    quiet = record { plain = m.quiet.plain; kept = m.quiet.kept; begun = m.quiet.begun; opens = m.quiet.opens; over = m.quiet.over; fore_first = m.quiet.fore_first; back_first = m.quiet.back_first; gone = m.quiet.gone; fore_sums = m.quiet.fore_sums; back_sums = m.quiet.back_sums };
     kinds = record { fore_is = e ∙ m.kinds.fore_is; back_is = m.kinds.back_is };
     there = m.there;
     soon = m.soon;
   }
   midway_on k Back x dir m e = record {
-    quiet = record { plain = m.quiet.plain; kept = m.quiet.kept; begun = m.quiet.begun; opens = m.quiet.opens; over = m.quiet.over; fore_first = m.quiet.fore_first; back_first = m.quiet.back_first; gone = m.quiet.gone };
+    quiet = record { plain = m.quiet.plain; kept = m.quiet.kept; begun = m.quiet.begun; opens = m.quiet.opens; over = m.quiet.over; fore_first = m.quiet.fore_first; back_first = m.quiet.back_first; gone = m.quiet.gone; fore_sums = m.quiet.fore_sums; back_sums = m.quiet.back_sums };
     kinds = record { fore_is = m.kinds.fore_is; back_is = e ∙ m.kinds.back_is };
     there = m.there;
     soon = m.soon;

@@ -25,6 +25,7 @@ use Rattle.flowdir.specs.Boundary.{IsStep}
 use Rattle.flowdir.specs.Boundary.Phase.{Rests as DirRests}
 use Rattle.convo.specs.Seen.{kept_for, IsWant}
 use Rattle.convo.specs.Going.{charges_going}
+use Rattle.convo.specs.Counted.{IsUncounted}
 use Rattle.convo.specs.Halves.{Hands, HandsBy}
 use Rattle.convo.specs.Talk.{Talk, IsWantOf, talk_after}
 use Rattle.convo.specs.Standing.{IsLeft, HandsOver, IsMidway, IsPlain, IsQuiet, IsResting, left_by, news}
@@ -44,6 +45,7 @@ use Rattle.convo.proofs.GivesSteps.{gives_front, gives_behind, gives_in, gives_p
 use Rattle.convo.proofs.GoingSteps.{charges_all}
 use Rattle.convo.proofs.SegSteps.{is_empty_append}
 use Rattle.convo.proofs.Settling.{settled_after}
+use Rattle.convo.proofs.SumSteps.{counts_on, gaps_of_back, gaps_of_fore, sums_kept}
 use Rattle.convo.proofs.TurnSteps.{hands_turn}
 
 left_cut : (pieces : List Piece) (kept : List KeptPiece) → left_by pieces (cond (is_empty pieces) [] kept) ≡ []
@@ -95,12 +97,14 @@ module _ {C : Type 0} (paid : C → Charge) (t : Terms) where
               ∙ ap (λ b. news b ++ (map ChunkMade (carrying Fore (map (kept_for paid) x.fore.kept) pf ++ carrying Back (map (kept_for paid) x.back.kept) pb) ++ EndedMade reason ∷ [])) (sym l.beside.opens);
           begun = is_empty_append c.events (events_in t c act) ∙ ap (λ b. b && is_empty (events_in t c act)) l.beside.begun;
           gone = gone;
+          fore_sums = counts_on l.beside.fore_sums (gaps_of_fore c.kept.fore c.kept.back pf pb);
+          back_sums = counts_on l.beside.back_sums (gaps_of_back c.kept.fore c.kept.back pf pb);
           stage = refl;
         };
       }
 
   beside_going : (x : Convo C) (going : Going C) (k : Talk) → IsBeside t x k → IsBeside t (record x { going = going }) k
-  beside_going x going k b = record { plain = b.plain; kinds = b.kinds; begun = b.begun; opens = b.opens; over = b.over }
+  beside_going x going k b = record { plain = b.plain; kinds = b.kinds; begun = b.begun; opens = b.opens; over = b.over; fore_sums = b.fore_sums; back_sums = b.back_sums }
 
   -- a charge of what is kept in the other direction goes out
   pub leaves_back : (k : Talk) (x : Convo C) (going : Going C) (c : C) (moment : Moment) (reason : Reason) (looks : List LookEntry) (frees : List Free) (more : ℕ)
@@ -165,9 +169,9 @@ module _ {C : Type 0} (paid : C → Charge) (t : Terms) where
       → y ≡ record x { back = y.back; going = y.going; stage = at.Unshown moment reason Back }
       → ((d : Direction) (pieces : List Piece) → Hands paid x.back d pieces
       → Hands paid y.back d pieces × (charges_going y.going ≡ charges_of_all (cond (is_empty pieces) x.back.kept [])) × (y.back.kept ≡ cond (is_empty pieces) [] x.back.kept))
-      → y.back.own ≡ x.back.own → dir_kind y.back.dir ≡ dir_kind x.back.dir
+      → y.back.own ≡ x.back.own → dir_kind y.back.dir ≡ dir_kind x.back.dir → IsUncounted x.back y.back
       → LeavesBack paid t y k moment.at 0
-  leaves_at_back k x y moment reason b here same hands own kind_is =
+  leaves_at_back k x y moment reason b here same hands own kind_is uncounted =
       let d : Direction = direction_after t (kind_of t k.convo) k.convo.directions.back (Ends moment.at) in
       let pb : List Piece = pieces_back t k.convo moment.at in
       let h = hands d pb (subst (λ f. HandsBy paid (DirStands paid x.back.dir d DirRests) f pb) (sym b.ahead.first) here) in
@@ -179,6 +183,8 @@ module _ {C : Type 0} (paid : C → Charge) (t : Terms) where
           begun = b.beside.begun;
           opens = b.beside.opens;
           over = b.beside.over;
+          fore_sums = b.beside.fore_sums;
+          back_sums = sums_kept x.back y.back uncounted b.beside.back_sums;
         };
         fore = b.fore;
         back = record { hands = h.0; kept_is = left_kept_is (is_empty pb) x.back.kept y.back.kept k.convo.kept.back h.2 b.ahead.kept_is };
@@ -208,7 +214,7 @@ module _ {C : Type 0} (paid : C → Charge) (t : Terms) where
   pub between_dir : (x : Convo C) (dir : DirKept C) (moment : Moment) (reason : Reason) (k : Talk) (m : ℕ) → dir_kind dir ≡ dir_kind x.back.dir → IsBetween paid t x k m
       → IsBetween paid t (record x { back = record x.back { dir = dir }; stage = at.End moment reason Back }) k m
   between_dir x dir moment reason k m e b = record {
-    beside = record { plain = b.beside.plain; kinds = record { fore_is = b.beside.kinds.fore_is; back_is = e ∙ b.beside.kinds.back_is }; begun = b.beside.begun; opens = b.beside.opens; over = b.beside.over };
+    beside = record { plain = b.beside.plain; kinds = record { fore_is = b.beside.kinds.fore_is; back_is = e ∙ b.beside.kinds.back_is }; begun = b.beside.begun; opens = b.beside.opens; over = b.beside.over; fore_sums = b.beside.fore_sums; back_sums = b.beside.back_sums };
     fore = b.fore;
     ahead = record { first = b.ahead.first; kept_is = b.ahead.kept_is };
     gone = b.gone;
@@ -250,9 +256,9 @@ module _ {C : Type 0} (paid : C → Charge) (t : Terms) where
       → y ≡ record x { fore = y.fore; going = y.going; stage = at.Unshown moment reason Fore }
       → ((d : Direction) (pieces : List Piece) → Hands paid x.fore d pieces
       → Hands paid y.fore d pieces × (charges_going y.going ≡ charges_of_all (cond (is_empty pieces) x.fore.kept [])) × (y.fore.kept ≡ cond (is_empty pieces) [] x.fore.kept))
-      → y.fore.own ≡ x.fore.own → dir_kind y.fore.dir ≡ dir_kind x.fore.dir
+      → y.fore.own ≡ x.fore.own → dir_kind y.fore.dir ≡ dir_kind x.fore.dir → IsUncounted x.fore y.fore
       → LeavesFore paid t y k moment.at 0
-  leaves_at_fore k x y moment reason m here same hands own kind_is =
+  leaves_at_fore k x y moment reason m here same hands own kind_is uncounted =
       let d : Direction = direction_after t (kind_of t k.convo) k.convo.directions.fore (Ends moment.at) in
       let pf : List Piece = pieces_fore t k.convo moment.at in
       let q : IsQuiet paid t x k = m.quiet in
@@ -265,6 +271,8 @@ module _ {C : Type 0} (paid : C → Charge) (t : Terms) where
           begun = q.begun;
           opens = q.opens;
           over = q.over;
+          fore_sums = sums_kept x.fore y.fore uncounted q.fore_sums;
+          back_sums = q.back_sums;
         };
         fore = record { hands = h.0; kept_is = left_kept_is (is_empty pf) x.fore.kept y.fore.kept k.convo.kept.fore h.2 (sym (ap (λ kept. kept.fore) q.kept)) };
         ahead = record { first = q.back_first; kept_is = sym (ap (λ kept. kept.back) q.kept) };
@@ -291,7 +299,7 @@ module _ {C : Type 0} (paid : C → Charge) (t : Terms) where
 
   pub midway_going : (x : Convo C) (going : Going C) (k : Talk) → charges_going going ≡ [] → IsMidway paid t x k Fore → IsMidway paid t (record x { going = going }) k Fore
   midway_going x going k e m = record {
-    quiet = record { plain = m.quiet.plain; kept = m.quiet.kept; begun = m.quiet.begun; opens = m.quiet.opens; over = m.quiet.over; fore_first = m.quiet.fore_first; back_first = m.quiet.back_first; gone = e };
+    quiet = record { plain = m.quiet.plain; kept = m.quiet.kept; begun = m.quiet.begun; opens = m.quiet.opens; over = m.quiet.over; fore_first = m.quiet.fore_first; back_first = m.quiet.back_first; gone = e; fore_sums = m.quiet.fore_sums; back_sums = m.quiet.back_sums };
     kinds = m.kinds;
     there = m.there;
     soon = m.soon;
@@ -300,7 +308,7 @@ module _ {C : Type 0} (paid : C → Charge) (t : Terms) where
   pub between_on : (x : Convo C) (dir : DirKept C) (k : Talk) (m : ℕ) → dir_kind dir ≡ dir_kind x.back.dir → IsBetween paid t x k m
       → IsBetween paid t (record x { back = record x.back { dir = dir } }) k m
   between_on x dir k m e b = record {
-    beside = record { plain = b.beside.plain; kinds = record { fore_is = b.beside.kinds.fore_is; back_is = e ∙ b.beside.kinds.back_is }; begun = b.beside.begun; opens = b.beside.opens; over = b.beside.over };
+    beside = record { plain = b.beside.plain; kinds = record { fore_is = b.beside.kinds.fore_is; back_is = e ∙ b.beside.kinds.back_is }; begun = b.beside.begun; opens = b.beside.opens; over = b.beside.over; fore_sums = b.beside.fore_sums; back_sums = b.beside.back_sums };
     fore = b.fore;
     ahead = record { first = b.ahead.first; kept_is = b.ahead.kept_is };
     gone = b.gone;

@@ -16,12 +16,14 @@ use Rattle.flowdir.specs.Boundary.{piece_for}
 use Rattle.convo.specs.Seen.{kept_for, IsEvent}
 use Rattle.convo.specs.Halves.{Hands, HandsFirst, KeptIs}
 use Rattle.convo.specs.Talk.{Talk}
+use Rattle.convo.specs.Counted.{IsCounted, IsUncounted}
 use Rattle.convo.specs.Standing.{HandsOver, IsResting, IsLeft, IsHanding, HasOrigin, IsPlain, news, ends, left_by}
 use Rattle.convo.specs.declared.talk.Convo.{Convo}
 use Rattle.convo.specs.declared.origin.Origin.{Origin}
 use Rattle.convo.specs.declared.half.Half.{Half}
 use Rattle.evring.specs.declared.event.Event.TheVariants.{New, Chunk}
 use Rattle.convo.specs.declared.want.Want.TheVariants.{Emit}
+use Rattle.convo.proofs.SumSteps.{sums_none, sums_taken}
 
 and_false : (b : Bool) → (b && false) ≡ false
 and_false true = refl
@@ -58,6 +60,8 @@ hand_new {C} paid t k x events opens l =
           events_are = refl;
           begun = h.begun ∙ ap (λ es. not x.begun && is_empty es) e ∙ and_false (not x.begun);
           gone = h.gone;
+          fore_sums = h.fore_sums;
+          back_sums = h.back_sums;
           stage = h.stage;
         };
       },
@@ -67,10 +71,10 @@ module _ {C : Type 0} (paid : C → Charge) (t : Terms) (k : Talk) where
   pub hand_fore : (x : Convo C) (half : Half C) (kept : List (ChunkParts C)) (chunk : ChunkParts C) (events : List EventMade)
       → x.opens ≡ false → IsLeft paid t x k events
       → ((d : Direction) (pieces : List Piece) → Hands paid x.fore d pieces → HandsFirst paid (Hands paid half d) pieces (Some (kept, chunk)))
-      → KeptIs x.fore.kept half.kept (Some (kept, chunk)) → half.own ≡ x.fore.own → dir_kind half.dir ≡ dir_kind x.fore.dir
+      → KeptIs x.fore.kept half.kept (Some (kept, chunk)) → half.own ≡ x.fore.own → dir_kind half.dir ≡ dir_kind x.fore.dir → IsCounted x.fore half chunk.gap
       → HandsOver paid k.convo.first (IsResting paid t (record x { fore = half; begun = true }) k) (IsLeft paid t (record x { fore = half; begun = true }) k) events
       (Emit (Chunk x.origin.number Fore x.origin.key kept chunk))
-  hand_fore x half kept chunk events opens l first kept_is own kind_is =
+  hand_fore x half kept chunk events opens l first kept_is own kind_is counted =
       let h : IsHanding paid t x k l.fore l.back events = l.handing in
       let f : HandsFirst paid (Hands paid half k.convo.directions.fore) l.fore (Some (kept, chunk)) = first k.convo.directions.fore l.fore h.fore_hands in
       let backs : List Delivery = carrying Back (map (kept_for paid) x.back.kept) l.back in
@@ -95,6 +99,8 @@ module _ {C : Type 0} (paid : C → Charge) (t : Terms) (k : Talk) where
                 ∙ ap (λ ks. map ChunkMade (carrying Fore (map (kept_for paid) ks) f.0 ++ backs) ++ ends x.over) kept_is.1);
             begun = h.begun ∙ ap (λ es. not x.begun && is_empty es) e ∙ and_false (not x.begun);
             gone = h.gone;
+            fore_sums = sums_taken x.fore half (piece_for paid chunk) l.fore f.0 counted f.1 h.fore_sums;
+            back_sums = h.back_sums;
             stage = h.stage;
           };
         },
@@ -102,9 +108,9 @@ module _ {C : Type 0} (paid : C → Charge) (t : Terms) (k : Talk) where
 
   pub none_fore : (x : Convo C) (half : Half C) (events : List EventMade) → IsLeft paid t x k events
       → ((d : Direction) (pieces : List Piece) → Hands paid x.fore d pieces → HandsFirst paid (Hands paid half d) pieces None)
-      → half.kept ≡ x.fore.kept → half.own ≡ x.fore.own → dir_kind half.dir ≡ dir_kind x.fore.dir
+      → half.kept ≡ x.fore.kept → half.own ≡ x.fore.own → dir_kind half.dir ≡ dir_kind x.fore.dir → IsUncounted x.fore half
       → (back : List Piece) × IsHanding paid t (record x { fore = half }) k [] back events
-  none_fore x half events l first kept_is own kind_is =
+  none_fore x half events l first kept_is own kind_is uncounted =
       let h : IsHanding paid t x k l.fore l.back events = l.handing in
       let f : HandsFirst paid (Hands paid half k.convo.directions.fore) l.fore None = first k.convo.directions.fore l.fore h.fore_hands in
       let backs : List Delivery = carrying Back (map (kept_for paid) x.back.kept) l.back in (
@@ -119,6 +125,8 @@ module _ {C : Type 0} (paid : C → Charge) (t : Terms) (k : Talk) where
           events_are = h.events_are ∙ ap (λ ps. news x.opens ++ (map ChunkMade (carrying Fore (map (kept_for paid) x.fore.kept) ps ++ backs) ++ ends x.over)) f.0;
           begun = h.begun;
           gone = h.gone;
+          fore_sums = sums_none x.fore half l.fore uncounted f.0 h.fore_sums;
+          back_sums = h.back_sums;
           stage = h.stage;
         },
       )
@@ -126,10 +134,10 @@ module _ {C : Type 0} (paid : C → Charge) (t : Terms) (k : Talk) where
   pub hand_back : (x : Convo C) (half : Half C) (kept : List (ChunkParts C)) (chunk : ChunkParts C) (events : List EventMade) (back : List Piece)
       → x.opens ≡ false → IsHanding paid t x k [] back events
       → ((d : Direction) (pieces : List Piece) → Hands paid x.back d pieces → HandsFirst paid (Hands paid half d) pieces (Some (kept, chunk)))
-      → KeptIs x.back.kept half.kept (Some (kept, chunk)) → half.own ≡ x.back.own → dir_kind half.dir ≡ dir_kind x.back.dir
+      → KeptIs x.back.kept half.kept (Some (kept, chunk)) → half.own ≡ x.back.own → dir_kind half.dir ≡ dir_kind x.back.dir → IsCounted x.back half chunk.gap
       → HandsOver paid k.convo.first (IsResting paid t (record x { back = half; begun = true }) k) (IsLeft paid t (record x { back = half; begun = true }) k) events
       (Emit (Chunk x.origin.number Back x.origin.key kept chunk))
-  hand_back x half kept chunk events back opens h first kept_is own kind_is =
+  hand_back x half kept chunk events back opens h first kept_is own kind_is counted =
       let f : HandsFirst paid (Hands paid half k.convo.directions.back) back (Some (kept, chunk)) = first k.convo.directions.back back h.back_hands in
       let more : List EventMade = map ChunkMade (carrying Back [] f.0) ++ ends x.over in
       let e : events ≡ ChunkMade (record { way = Back; piece = piece_for paid chunk; kept = map (kept_for paid) x.back.kept }) ∷ more =
@@ -152,6 +160,8 @@ module _ {C : Type 0} (paid : C → Charge) (t : Terms) (k : Talk) where
                 ∙ ap (λ ks. map ChunkMade (carrying Back (map (kept_for paid) ks) f.0) ++ ends x.over) kept_is.1);
             begun = h.begun ∙ ap (λ es. not x.begun && is_empty es) e ∙ and_false (not x.begun);
             gone = h.gone;
+            fore_sums = h.fore_sums;
+            back_sums = sums_taken x.back half (piece_for paid chunk) back f.0 counted f.1 h.back_sums;
             stage = h.stage;
           };
         },

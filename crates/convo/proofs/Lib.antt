@@ -2,6 +2,8 @@ mod Within
 mod FlagSteps
 mod DirSteps
 mod DefSteps
+mod SumSteps
+mod Histories
 mod HandSteps
 mod SegSteps
 mod TurnSteps

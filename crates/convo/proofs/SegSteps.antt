@@ -14,18 +14,21 @@ use Rattle.streamdefs.specs.Terms.{Terms}
 use Rattle.streamdefs.specs.Packet.{Packet as Accepted}
 use Rattle.streamdefs.specs.Reorder.{Charge}
 use Rattle.streamdefs.specs.Pending.{Piece}
-use Rattle.streamdefs.specs.Direction.{Segment, direction_after, pieces_by}
+use Rattle.streamdefs.specs.Direction.{Segment, counts_by, direction_after, pieces_by}
 use Rattle.streamdefs.specs.Direction.Deed.{Arrives}
 use Rattle.streamdefs.specs.Convo.{Convo as Made, Event as EventMade, kind_of, way_of, segment_of, carrying, is_live, after, events_in}
 use Rattle.streamdefs.specs.Convo.Event.{New as NewMade, Chunk as ChunkMade}
 use Rattle.streamdefs.specs.Convo.Act.{Seg}
 use Rattle.flowdir.specs.Boundary.Phase.{Rests as DirRests}
+use Rattle.flowdir.specs.Counting.{classes_of}
+use Rattle.flowdir.specs.declared.counts.Counts.{Counts}
 use Rattle.convo.specs.Seen.{kept_for}
 use Rattle.convo.specs.Halves.{HandsBy}
 use Rattle.convo.specs.Talk.{Talk, Sums}
-use Rattle.convo.specs.Standing.{IsLeft, IsMidway, IsQuiet, finished_segment, half_of, news, ends}
+use Rattle.convo.specs.Standing.{IsLeft, IsMidway, IsQuiet, counts_with, finished_segment, half_of, news, ends, with_counts}
 use Rattle.convo.specs.declared.talk.Convo.{Convo}
 use Rattle.convo.proofs.Settling.{settled_after}
+use Rattle.convo.proofs.SumSteps.{counts_more, counts_on, gaps_only_back, gaps_only_fore, no_gaps_back, no_gaps_fore, sums_at, sums_seg}
 
 -- the events of a segment of a direction
 abbrev pub events_seg : Made → Way → List Piece → List EventMade
@@ -71,13 +74,15 @@ early_by true m n a b = a
 early_by false m n a b = b
 
 module _ {C : Type 0} (paid : C → Charge) (t : Terms) where
-  pub seg_left : (k : Talk) (x : Convo C) (w : Way) (s : Segment) (now : ℕ) (looks : List LookEntry) (owed due : Option (Reason × ℕ)) (sums : Both Sums)
+  pub seg_left : (k : Talk) (x : Convo C) (w : Way) (s : Segment) (now : ℕ) (looks : List LookEntry) (counts : Counts) (owed due : Option (Reason × ℕ)) (sums : Both Sums)
       → now ≤ 2 ^ 62 → IsMidway paid t x k w
       → DirStands paid (half_of w x).dir (direction_after t (kind_of t k.convo) (of_way w k.convo.directions) (Arrives s looks)) DirRests (pieces_by t (kind_of t k.convo) (of_way w k.convo.directions) (Arrives s looks))
+      → classes_of counts ≡ counts_by (kind_of t k.convo) (of_way w k.convo.directions) (Arrives s looks)
+      → sums.fore ≡ sums_seg t k.convo w s looks Fore k.sums.fore → sums.back ≡ sums_seg t k.convo w s looks Back k.sums.back
       → due ≡ owed
-      → IsLeft paid t (finished_segment owed now x) (record { convo = after_seg t k.convo w s now looks; owed = due; sums = sums })
+      → IsLeft paid t (finished_segment owed now (with_counts w (counts_with (half_of w x).counts counts) x)) (record { convo = after_seg t k.convo w s now looks; owed = due; sums = sums })
       (events_seg k.convo w (pieces_by t (kind_of t k.convo) (of_way w k.convo.directions) (Arrives s looks)))
-  seg_left k x Fore s now looks owed due sums soon m here owed_is =
+  seg_left k x Fore s now looks counts owed due sums soon m here counted fs bs owed_is =
       let q : IsQuiet paid t x k = m.quiet in
       let d = direction_after t (kind_of t k.convo) k.convo.directions.fore (Arrives s looks) in
       let pieces : List Piece = pieces_by t (kind_of t k.convo) k.convo.directions.fore (Arrives s looks) in
@@ -105,10 +110,12 @@ module _ {C : Type 0} (paid : C → Charge) (t : Terms) where
               ∙ ap (λ o. news (not x.begun) ++ (map ChunkMade (carrying Fore (map (kept_for paid) x.fore.kept) pieces ++ []) ++ ends o)) (sym q.over);
           begun = is_empty_append k.convo.events (events_seg k.convo Fore pieces) ∙ ap (λ b. b && is_empty (events_seg k.convo Fore pieces)) q.begun;
           gone = q.gone;
+          fore_sums = sums_at fs (counts_more counts q.fore_sums (sym counted) (gaps_only_fore k.convo.kept.fore pieces));
+          back_sums = sums_at bs (counts_on q.back_sums (no_gaps_back k.convo.kept.fore pieces));
           stage = refl;
         };
       }
-  seg_left k x Back s now looks owed due sums soon m here owed_is =
+  seg_left k x Back s now looks counts owed due sums soon m here counted fs bs owed_is =
       let q : IsQuiet paid t x k = m.quiet in
       let d = direction_after t (kind_of t k.convo) k.convo.directions.back (Arrives s looks) in
       let pieces : List Piece = pieces_by t (kind_of t k.convo) k.convo.directions.back (Arrives s looks) in
@@ -137,6 +144,8 @@ module _ {C : Type 0} (paid : C → Charge) (t : Terms) where
               ∙ ap (λ o. news (not x.begun) ++ (map ChunkMade (carrying Back (map (kept_for paid) x.back.kept) pieces) ++ ends o)) (sym q.over);
           begun = is_empty_append k.convo.events (events_seg k.convo Back pieces) ∙ ap (λ b. b && is_empty (events_seg k.convo Back pieces)) q.begun;
           gone = q.gone;
+          fore_sums = sums_at fs (counts_on q.fore_sums (no_gaps_fore k.convo.kept.back pieces));
+          back_sums = sums_at bs (counts_more counts q.back_sums (sym counted) (gaps_only_back k.convo.kept.back pieces));
           stage = refl;
         };
       }

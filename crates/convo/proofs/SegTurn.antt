@@ -23,7 +23,7 @@ use Rattle.flowdir.specs.Boundary.{IsStep}
 use Rattle.flowdir.specs.Boundary.Phase.{Rests as DirRests}
 use Rattle.convo.specs.Seen.{IsWant}
 use Rattle.convo.specs.Talk.{Talk, IsWantOf, SetsUp, talk_after}
-use Rattle.convo.specs.Standing.{IsSoon, HandsOver, HasOrigin, IsResting, IsLeft, IsMidway, IsQuiet, closing_by, done_of, finished_segment, half_of, own_of, owed_by_segment, with_counts}
+use Rattle.convo.specs.Standing.{IsSoon, HandsOver, HasOrigin, IsResting, IsLeft, IsMidway, closing_by, counts_with, done_of, finished_segment, half_of, own_of, owed_by_segment, with_counts}
 use Rattle.convo.specs.Stands.{IsMoving, Stands}
 use Rattle.convo.specs.declared.talk.Convo.{Convo}
 use Rattle.convo.specs.declared.stage.Stage.TheVariants as at
@@ -34,6 +34,7 @@ use Rattle.flowdir.specs.declared.step.Step.TheVariants.{Ask as AskStep, Free as
 use Rattle.convo.proofs.DefSteps.{seg_move, want_asks, want_gives}
 use Rattle.convo.proofs.OwedSteps.{closing_is, mark_is}
 use Rattle.convo.proofs.SegSteps.{seg_left}
+use Rattle.convo.proofs.SumSteps.{sums_seg_is}
 use Rattle.convo.proofs.TurnSteps.{hands_turn}
 
 -- the End that is due behind a segment
@@ -45,19 +46,13 @@ owed_is t set x k p now looks frees s f o e =
     ap (λ closed. owed_by_segment (is_live k.convo) (has_rst p) now closed) (closing_is t set x (after t k.convo (Seg p now looks frees)) now s f o)
     ∙ ap (λ ended. owed_by_segment (is_none ended) (has_rst p) now (closing_by (done_of x set Fore (after t k.convo (Seg p now looks frees)).directions.fore) (done_of x set Back (after t k.convo (Seg p now looks frees)).directions.back) now)) e
 
+-- the End that is due behind a segment's moves
+abbrev IsOwed : {C : Type 0} → (C → Charge) → Convo C → ConvoSet → Bool → ℕ → Option (Reason × ℕ) → Type 0
+IsOwed paid x set reset now owed =
+    (fore back : Direction) (a b : List Piece) → DirStands paid x.fore.dir fore DirRests a → DirStands paid x.back.dir back DirRests b
+    → owed ≡ owed_by_segment (is_none x.ended) reset now (closing_by (done_of x set Fore fore) (done_of x set Back back) now)
+
 module _ {C : Type 0} (paid : C → Charge) (t : Terms) where
-  quiet_fore : (k : Talk) (counts : Counts) (x : Convo C) → IsQuiet paid t x k → IsQuiet paid t (with_counts Fore counts x) k
-  quiet_fore k counts x q = record { plain = q.plain; kept = q.kept; begun = q.begun; opens = q.opens; over = q.over; fore_first = q.fore_first; back_first = q.back_first; gone = q.gone }
-
-  quiet_back : (k : Talk) (counts : Counts) (x : Convo C) → IsQuiet paid t x k → IsQuiet paid t (with_counts Back counts x) k
-  quiet_back k counts x q = record { plain = q.plain; kept = q.kept; begun = q.begun; opens = q.opens; over = q.over; fore_first = q.fore_first; back_first = q.back_first; gone = q.gone }
-
-  pub midway_counts : (k : Talk) (w v : Way) (counts : Counts) (x : Convo C) → IsMidway paid t x k w → IsMidway paid t (with_counts v counts x) k w
-  midway_counts k Fore Fore counts x m = record { quiet = quiet_fore k counts x m.quiet; kinds = m.kinds; there = m.there; soon = m.soon }
-  midway_counts k Fore Back counts x m = record { quiet = quiet_back k counts x m.quiet; kinds = m.kinds; there = m.there; soon = m.soon }
-  midway_counts k Back Fore counts x m = record { quiet = quiet_fore k counts x m.quiet; kinds = m.kinds; there = m.there; soon = m.soon }
-  midway_counts k Back Back counts x m = record { quiet = quiet_back k counts x m.quiet; kinds = m.kinds; there = m.there; soon = m.soon }
-
   -- an ask, or a release
   seg_asks : (k : Talk) (x : Convo C) (set : ConvoSet) (p : Accepted) (now : ℕ) (looks : List LookEntry) (frees : List Free) (bytes : ℕ) → SetsUp set t → IsMidway paid t x k (way_of k.convo p)
       → x.stage ≡ at.Segment (way_of k.convo p) now (has_rst p)
@@ -96,7 +91,7 @@ module _ {C : Type 0} (paid : C → Charge) (t : Terms) where
       → IsStep paid (DirStands paid (half_of (way_of k.convo p) x).dir) t (kind_of t k.convo) (of_way (way_of k.convo p) k.convo.directions) (Arrives (segment_of t k.convo p now) looks) (length frees) [] (DoneStep counts)
       → ((fore back : Direction) (a b : List Piece) → DirStands paid x.fore.dir fore DirRests a → DirStands paid x.back.dir back DirRests b
       → owed ≡ owed_by_segment (is_none x.ended) (has_rst p) now (closing_by (done_of x set Fore fore) (done_of x set Back back) now))
-      → ((k' : Talk) (events : List EventMade) → IsLeft paid t (finished_segment owed now x) k' events → HandsOver paid k'.convo.first (IsResting paid t y k') (IsLeft paid t y k') events want)
+      → ((k' : Talk) (events : List EventMade) → IsLeft paid t (finished_segment owed now (with_counts (way_of k.convo p) (counts_with (half_of (way_of k.convo p) x).counts counts) x)) k' events → HandsOver paid k'.convo.first (IsResting paid t y k') (IsLeft paid t y k') events want)
       → IsWantOf paid (Stands paid y t) t k (Seg p now looks frees) 0 want
   seg_done k x y set p now looks frees counts owed want s soon m h o hand =
       let act : Act = Seg p now looks frees in
@@ -106,7 +101,8 @@ module _ {C : Type 0} (paid : C → Charge) (t : Terms) where
       let b = rests_back k (way_of k.convo p) x d pieces m h.2 in
       let due = owed_is t set x k p now looks frees s m.quiet.plain.origin_is m.quiet.plain.own_is m.quiet.plain.ended_is
       ∙ sym (o (with_way (way_of k.convo p) d k.convo.directions).fore (with_way (way_of k.convo p) d k.convo.directions).back a.0 b.0 a.1 b.1) in
-      let left = seg_left paid t k x (way_of k.convo p) (segment_of t k.convo p now) now looks owed (ending t k.convo act) (talk_after t k act).sums soon m h.2 due in
+      let left = seg_left paid t k x (way_of k.convo p) (segment_of t k.convo p now) now looks counts owed (ending t k.convo act) (talk_after t k act).sums soon m h.2 h.1
+      (sums_seg_is t k.convo p now looks frees Fore k.sums.fore) (sums_seg_is t k.convo p now looks frees Back k.sums.back) due in
       hands_turn paid t k y act 0 k.convo.first want refl (seg_move t k.convo p now looks frees ∙ h.0) (hand (talk_after t k act) (events_in t k.convo act) left)
 
   -- the same, where way and reset are known by an equation
@@ -126,25 +122,24 @@ module _ {C : Type 0} (paid : C → Charge) (t : Terms) where
       seg_gives k x p now looks frees charge (subst (λ w. IsMidway paid t x k w) w m) (st ∙ ap (λ w. at.Segment w now reset) w ∙ ap (λ r. at.Segment (way_of k.convo p) now r) r)
       (subst (λ w. IsStep paid (DirStands paid (half_of w x).dir) t (kind_of t k.convo) (of_way w k.convo.directions) (Arrives (segment_of t k.convo p now) looks) (length frees) [] (FreeStep charge)) w h)
 
-  counted_dir : (w v : Way) (counts : Counts) (x : Convo C) → (half_of w (with_counts v counts x)).dir ≡ (half_of w x).dir
-  counted_dir Fore Fore counts x = refl
-  counted_dir Fore Back counts x = refl
-  counted_dir Back Fore counts x = refl
-  counted_dir Back Back counts x = refl
+  -- counts make no difference to the End that is due
+  owed_counts : (w : Way) (more : Counts) (x : Convo C) (set : ConvoSet) (reset : Bool) (now : ℕ) (owed : Option (Reason × ℕ)) → IsOwed paid (with_counts w more x) set reset now owed → IsOwed paid x set reset now owed
+  owed_counts Fore more x set reset now owed o = o
+  owed_counts Back more x set reset now owed o = o
 
-  pub done_at : (k : Talk) (x x1 x2 y : Convo C) (set : ConvoSet) (way : Way) (reset : Bool) (p : Accepted) (now : ℕ) (looks : List LookEntry) (frees : List Free) (counts more : Counts) (want : Want C)
+  pub done_at : (k : Talk) (x x1 x2 y : Convo C) (set : ConvoSet) (way : Way) (reset : Bool) (p : Accepted) (now : ℕ) (looks : List LookEntry) (frees : List Free) (counts : Counts) (want : Want C)
       → x.stage ≡ at.Segment way now reset → SetsUp set t → IsMidway paid t x k way → way ≡ way_of k.convo p → reset ≡ has_rst p
       → IsStep paid (DirStands paid (half_of way x).dir) t (kind_of t k.convo) (of_way way k.convo.directions) (Arrives (segment_of t k.convo p now) looks) (length frees) [] (DoneStep counts)
-      → x1 ≡ with_counts way more x → x2 ≡ finished_segment x2.owed now x1
-      → ((fore back : Direction) (a b : List Piece) → DirStands paid x1.fore.dir fore DirRests a → DirStands paid x1.back.dir back DirRests b
-      → x2.owed ≡ owed_by_segment (is_none x1.ended) reset now (closing_by (done_of x1 set Fore fore) (done_of x1 set Back back) now))
+      → x1 ≡ with_counts way (counts_with (half_of way x).counts counts) x → x2 ≡ finished_segment x2.owed now x1 → IsOwed paid x1 set reset now x2.owed
       → ((k' : Talk) (events : List EventMade) → IsLeft paid t x2 k' events → HandsOver paid k'.convo.first (IsResting paid t y k') (IsLeft paid t y k') events want)
       → IsWantOf paid (Stands paid y t) t k (Seg p now looks frees) 0 want
-  done_at k x x1 x2 y set way reset p now looks frees counts more want st s m w r h e1 e2 o hand =
-      seg_done k x1 y set p now looks frees counts x2.owed want s (subst IsSoon st m.soon)
-      (subst (λ x. IsMidway paid t x k (way_of k.convo p)) (sym e1) (midway_counts k (way_of k.convo p) way more x (subst (λ w. IsMidway paid t x k w) w m)))
-      (subst (λ dir. IsStep paid (DirStands paid dir) t (kind_of t k.convo) (of_way (way_of k.convo p) k.convo.directions) (Arrives (segment_of t k.convo p now) looks) (length frees) [] (DoneStep counts))
-      (sym (ap (λ x. (half_of (way_of k.convo p) x).dir) e1 ∙ counted_dir (way_of k.convo p) way more x))
-      (subst (λ w. IsStep paid (DirStands paid (half_of w x).dir) t (kind_of t k.convo) (of_way w k.convo.directions) (Arrives (segment_of t k.convo p now) looks) (length frees) [] (DoneStep counts)) w h))
-      (λ fore back a b sf sb. o fore back a b sf sb ∙ ap (λ r. owed_by_segment (is_none x1.ended) r now (closing_by (done_of x1 set Fore fore) (done_of x1 set Back back) now)) r)
-      (λ k' events left. hand k' events (subst (λ x. IsLeft paid t x k' events) (sym e2) left))
+  done_at k x x1 x2 y set way reset p now looks frees counts want st s m w r h e1 e2 o hand =
+      let o2 : IsOwed paid x set reset now x2.owed =
+      owed_counts way (counts_with (half_of way x).counts counts) x set reset now x2.owed (subst (λ x. IsOwed paid x set reset now x2.owed) e1 o) in
+      seg_done k x y set p now looks frees counts x2.owed want s (subst IsSoon st m.soon)
+      (subst (λ w. IsMidway paid t x k w) w m)
+      (subst (λ w. IsStep paid (DirStands paid (half_of w x).dir) t (kind_of t k.convo) (of_way w k.convo.directions) (Arrives (segment_of t k.convo p now) looks) (length frees) [] (DoneStep counts)) w h)
+      (λ fore back a b sf sb. o2 fore back a b sf sb ∙ ap (λ r. owed_by_segment (is_none x.ended) r now (closing_by (done_of x set Fore fore) (done_of x set Back back) now)) r)
+      (λ k' events left. hand k' events (subst (λ x. IsLeft paid t x k' events) (sym e2)
+      (subst (λ x. IsLeft paid t (finished_segment x2.owed now x) k' events) (sym e1)
+      (subst (λ w. IsLeft paid t (finished_segment x2.owed now (with_counts w (counts_with (half_of w x).counts counts) x)) k' events) (sym w) left))))

@@ -43,6 +43,7 @@ use Rattle.convo.proofs.DefSteps.{want_asks, want_gives}
 use Rattle.convo.proofs.OwedSteps.{closing_is, mark_is}
 use Rattle.convo.proofs.SegSteps.{is_empty_append}
 use Rattle.convo.proofs.Settling.{settled_after}
+use Rattle.convo.proofs.SumSteps.{counts_on, gaps_of_back, gaps_of_fore}
 use Rattle.convo.proofs.TimeSteps.{back_move, cut_same, own_looks, rest_behind, time_move}
 use Rattle.convo.proofs.TurnSteps.{hands_turn}
 
@@ -121,6 +122,8 @@ module _ {C : Type 0} (paid : C → Charge) (t : Terms) where
               ∙ ap (λ b. news b ++ (map ChunkMade (carrying Fore (map (kept_for paid) x.fore.kept) pf ++ carrying Back (map (kept_for paid) x.back.kept) pb) ++ ends x.over)) (sym q.opens);
           begun = is_empty_append c.events (events_in t c act) ∙ ap (λ b. b && is_empty (events_in t c act)) q.begun;
           gone = q.gone;
+          fore_sums = counts_on q.fore_sums (gaps_of_fore c.kept.fore c.kept.back pf pb);
+          back_sums = counts_on q.back_sums (gaps_of_back c.kept.fore c.kept.back pf pb);
           stage = refl;
         };
       }
@@ -214,7 +217,7 @@ module _ {C : Type 0} (paid : C → Charge) (t : Terms) where
   pub done_dir : (x : Convo C) (dir : DirKept C) (moment : Moment) (k : Talk) (m : ℕ) (looks : List LookEntry) → dir_kind dir ≡ dir_kind x.back.dir → IsTimeDone paid t x k m looks
       → IsTimeDone paid t (record x { back = record x.back { dir = dir }; stage = at.Time moment Back }) k m looks
   done_dir x dir moment k m looks e d = record {
-    quiet = record { plain = d.quiet.plain; kept = d.quiet.kept; begun = d.quiet.begun; opens = d.quiet.opens; over = d.quiet.over; fore_first = d.quiet.fore_first; back_first = d.quiet.back_first; gone = d.quiet.gone };
+    quiet = record { plain = d.quiet.plain; kept = d.quiet.kept; begun = d.quiet.begun; opens = d.quiet.opens; over = d.quiet.over; fore_first = d.quiet.fore_first; back_first = d.quiet.back_first; gone = d.quiet.gone; fore_sums = d.quiet.fore_sums; back_sums = d.quiet.back_sums };
     kinds = record { fore_is = d.kinds.fore_is; back_is = e ∙ d.kinds.back_is };
     fore = d.fore;
     asked = d.asked;
@@ -223,7 +226,7 @@ module _ {C : Type 0} (paid : C → Charge) (t : Terms) where
   pub done_on : (x : Convo C) (dir : DirKept C) (k : Talk) (m : ℕ) (looks : List LookEntry) → dir_kind dir ≡ dir_kind x.back.dir → IsTimeDone paid t x k m looks
       → IsTimeDone paid t (record x { back = record x.back { dir = dir } }) k m looks
   done_on x dir k m looks e d = record {
-    quiet = record { plain = d.quiet.plain; kept = d.quiet.kept; begun = d.quiet.begun; opens = d.quiet.opens; over = d.quiet.over; fore_first = d.quiet.fore_first; back_first = d.quiet.back_first; gone = d.quiet.gone };
+    quiet = record { plain = d.quiet.plain; kept = d.quiet.kept; begun = d.quiet.begun; opens = d.quiet.opens; over = d.quiet.over; fore_first = d.quiet.fore_first; back_first = d.quiet.back_first; gone = d.quiet.gone; fore_sums = d.quiet.fore_sums; back_sums = d.quiet.back_sums };
     kinds = record { fore_is = d.kinds.fore_is; back_is = e ∙ d.kinds.back_is };
     fore = d.fore;
     asked = d.asked;

@@ -13,6 +13,7 @@ use Rattle.streamdefs.specs.Convo.{Convo as Made, Kept as KeptPiece, kind_of, ch
 use Rattle.flowdir.specs.Boundary.Phase.{Rests as DirRests, Works}
 use Rattle.convo.specs.Seen.{kept_for}
 use Rattle.convo.specs.Going.{charges_going}
+use Rattle.convo.specs.Counted.{CountsUp}
 use Rattle.convo.specs.Halves.{Hands}
 use Rattle.convo.specs.Talk.{Talk}
 use Rattle.convo.specs.Standing.{IsMidway, IsPlain, HasKind, own_of}
@@ -52,6 +53,8 @@ pub record IsBeside {C : Type 0} (t : Terms) (x : Convo C) (k : Talk) : Type 0 w
   pub begun : is_empty k.convo.events ≡ not x.begun
   pub opens : x.opens ≡ false
   pub over : x.over ≡ None
+  pub fore_sums : CountsUp x.fore.counts x.fore.gaps x.fore.gap_bytes k.sums.fore []
+  pub back_sums : CountsUp x.back.counts x.back.gaps x.back.gap_bytes k.sums.back []
 
 -- the other direction waits
 pub record IsAhead {C : Type 0} (paid : C → Charge) (x : Convo C) (k : Talk) : Type 0 where

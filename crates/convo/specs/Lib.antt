@@ -5,6 +5,7 @@ pub mod Weights
 pub mod Talk
 pub mod Halves
 pub mod Going
+pub mod Counted
 pub mod Standing
 pub mod Left
 pub mod Endings

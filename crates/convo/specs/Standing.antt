@@ -30,6 +30,7 @@ use Rattle.convo.specs.declared.want.Want.{Want}
 use Rattle.convo.specs.declared.want.Want.TheVariants.{Ask, Free as FreeWant, Emit, Rest}
 use Rattle.convo.specs.Halves.{Hands, weight_of_half}
 use Rattle.convo.specs.Going.{charges_going, weight_of_charges}
+use Rattle.convo.specs.Counted.{CountsUp}
 use Rattle.convo.specs.Talk.{Talk, talk_after, kept_count}
 use Rattle.convo.specs.declared.half.Half.{Half}
 use Rattle.convo.specs.declared.talk.Convo.{Convo}
@@ -84,6 +85,8 @@ pub record IsQuiet {C : Type 0} (paid : C → Charge) (t : Terms) (x : Convo C) 
   pub fore_first : x.fore.first ≡ None
   pub back_first : x.back.first ≡ None
   pub gone : charges_going x.going ≡ []
+  pub fore_sums : CountsUp x.fore.counts x.fore.gaps x.fore.gap_bytes k.sums.fore []
+  pub back_sums : CountsUp x.back.counts x.back.gaps x.back.gap_bytes k.sums.back []
 
 -- both directions are of the conversation's kind
 pub record HasKind {C : Type 0} (here : Kind) (fore back : DirKept C) : Type 0 where
@@ -121,6 +124,8 @@ pub record IsHanding {C : Type 0} (paid : C → Charge) (t : Terms) (x : Convo C
   pub events_are : events ≡ news x.opens ++ (map ChunkMade (carrying Fore (map (kept_for paid) x.fore.kept) fore ++ carrying Back (map (kept_for paid) x.back.kept) back) ++ ends x.over)
   pub begun : is_empty k.convo.events ≡ (not x.begun && is_empty events)
   pub gone : charges_going x.going ≡ []
+  pub fore_sums : CountsUp x.fore.counts x.fore.gaps x.fore.gap_bytes k.sums.fore fore
+  pub back_sums : CountsUp x.back.counts x.back.gaps x.back.gap_bytes k.sums.back back
   pub stage : x.stage ≡ at.Events
 
 -- some pieces are handed over with these events

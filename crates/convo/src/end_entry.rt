@@ -19,6 +19,7 @@ ghost use Rattle.streamdefs.specs.Convo.Act.{End as EndAct};
 ghost use Rattle.flowdir.specs.Boundary.{AsksSome, IsStep, charge_by, asked_by, weight_of_step};
 ghost use Rattle.convo.specs.Weights.{weight_of_chunks, weight_of_want};
 ghost use Rattle.convo.specs.Left.{Adds, Gives, Lowers, grants_left, stage_work, work_left};
+ghost use Rattle.convo.specs.Counted.{IsUncounted};
 ghost use Rattle.convo.specs.Going.{charges_going};
 ghost use Rattle.convo.specs.Halves.{Hands, weight_of_half};
 ghost use Rattle.convo.specs.Talk.{Talk, SetsUp, IsWantOf, asked_in};
@@ -42,6 +43,7 @@ impl<C: Charge> Convo<C> {
         ensures hands { (d : Direction) (pieces : List Piece) → Hands (charge_by C.amount C.stamp) (half_of way self.old) d pieces
             → Hands (charge_by C.amount C.stamp) (half_of way self.new) d pieces × (result ≡ cond (is_empty pieces) (half_of way self.old).kept [])
             × ((half_of way self.new).kept ≡ cond (is_empty pieces) [] (half_of way self.old).kept) }
+        ensures sums { IsUncounted (half_of way self.old) (half_of way self.new) }
         ensures own { (half_of way self.new).own ≡ (half_of way self.old).own }
         ensures kind { dir_kind (half_of way self.new).dir ≡ dir_kind (half_of way self.old).dir }
         ensures last { (half_of way self.new).dir.last ≡ (half_of way self.old).dir.last }
@@ -62,6 +64,7 @@ impl<C: Charge> Convo<C> {
             → Hands (charge_by C.amount C.stamp) (half_of way self.new) d pieces
             × (charges_going self.new.going ≡ charges_of_all (cond (is_empty pieces) (half_of way self.old).kept []))
             × ((half_of way self.new).kept ≡ cond (is_empty pieces) [] (half_of way self.old).kept) }
+        ensures sums { IsUncounted (half_of way self.old) (half_of way self.new) }
         ensures own { (half_of way self.new).own ≡ (half_of way self.old).own }
         ensures kind { dir_kind (half_of way self.new).dir ≡ dir_kind (half_of way self.old).dir }
         ensures last { (half_of way self.new).dir.last ≡ (half_of way self.old).dir.last }

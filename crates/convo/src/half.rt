@@ -6,6 +6,8 @@ ghost use Rattle.streamdefs.specs.Lists.{is_empty};
 ghost use Rattle.evring.specs.Charges.{charges_of_all};
 ghost use Rattle.flowdir.specs.Left.{count_of};
 ghost use Rattle.convo.specs.Left.{Gives};
+ghost use Rattle.convo.specs.Counted.{CountsTaken, IsUncounted, gaps_with};
+ghost use Rattle.convo.specs.Talk.{kept_count};
 ghost use Rattle.convo.specs.Weights.{weight_of_chunks};
 ghost use Rattle.flowdir.specs.Boundary.{charge_by, IsFirst, weight_of_chunk};
 ghost use Rattle.convo.specs.Halves.{Hands, HandsFirst, KeptIs, weight_of_half, weight_of_taken};
@@ -32,6 +34,18 @@ pub struct Half<C: Charge> {
     pub gap_bytes: u64,
 }
 
+/// One gap more, where there is one. A count stands still at its type's end.
+#[tactic(auto, using(std::proofs::lemmas::Bool::Decides::nat_tests))]
+fn with_gap(gaps: u64, gap: u64) -> u64
+    ensures { result ≡ gaps_with gap gaps }
+{
+    if gap > 0 {
+        gaps.saturating_add(1)
+    } else {
+        gaps
+    }
+}
+
 impl<C: Charge> Half<C> {
     /// The next chunk that is handed over, where there is one.
     pub(crate) fn hand(&mut self) -> Option<Chunk<C>>
@@ -49,10 +63,19 @@ impl<C: Charge> Half<C> {
         direction::take_closed(&mut self.dir)
     }
 
+    /// Counts what stands before a chunk that is handed over.
+    fn count_gap(&mut self, gap: u64)
+        ensures { self.new ≡ record self.old { gaps = gaps_with gap self.old.gaps; gap_bytes = kept_count (self.old.gap_bytes + gap) } }
+    {
+        self.gaps = with_gap(self.gaps, gap);
+        self.gap_bytes = self.gap_bytes.saturating_add(gap);
+    }
+
     /// The next chunk that is handed over, with what is kept.
     pub(crate) fn hand_over(&mut self, alloc: Global) -> Option<(Kept<C>, Chunk<C>)>
         ensures first { (d : Direction) (pieces : List Piece) → Hands (charge_by C.amount C.stamp) self.old d pieces → HandsFirst (charge_by C.amount C.stamp) (Hands (charge_by C.amount C.stamp) self.new d) pieces result }
         ensures kept { KeptIs self.old.kept self.new.kept result }
+        ensures sums { CountsTaken self.old self.new result }
         ensures own { self.new.own ≡ self.old.own }
         ensures kind { dir_kind self.new.dir ≡ dir_kind self.old.dir }
         ensures last { self.new.dir.last ≡ self.old.dir.last }
@@ -61,11 +84,7 @@ impl<C: Charge> Half<C> {
         ensures weight { (w : C → ℕ) → weight_of_half w self.new + weight_of_taken w result ≡ weight_of_half w self.old }
     {
         let chunk = self.hand()?;
-        let gap = chunk.gap();
-        if gap > 0 {
-            self.gaps = self.gaps.saturating_add(1);
-            self.gap_bytes = self.gap_bytes.saturating_add(gap);
-        }
+        self.count_gap(chunk.gap());
         let kept = mem::replace(&mut self.kept, Kept::none(alloc));
         Some((kept, chunk))
     }
@@ -91,6 +110,7 @@ impl<C: Charge> Half<C> {
     pub(crate) fn unshown(&mut self, alloc: Global) -> Kept<C>
         ensures hands { (d : Direction) (pieces : List Piece) → Hands (charge_by C.amount C.stamp) self.old d pieces
             → Hands (charge_by C.amount C.stamp) self.new d pieces × (result ≡ cond (is_empty pieces) self.old.kept []) × (self.new.kept ≡ cond (is_empty pieces) [] self.old.kept) }
+        ensures sums { IsUncounted self.old self.new }
         ensures own { self.new.own ≡ self.old.own }
         ensures kind { dir_kind self.new.dir ≡ dir_kind self.old.dir }
         ensures last { self.new.dir.last ≡ self.old.dir.last }

@@ -6,11 +6,12 @@ ghost use Rattle.streamdefs.specs.Convo.{has_other_base, is_live, time_dues};
 ghost use Rattle.flowdir.specs.Boundary.{charge_by, least_of, number_of};
 ghost use Rattle.convo.specs.Left.{due_at};
 ghost use Rattle.convo.specs.Seen.{packet_of};
-ghost use Rattle.convo.specs.Talk.{Talk, SetsUp, due_of, sooner_of};
+ghost use Rattle.convo.specs.Talk.{IsTotal, Talk, SetsUp, due_of, sooner_of};
 ghost use Rattle.convo.specs.Standing.{IsResting, least_by};
 
 use crate::flags::has_syn;
-use crate::{Convo, ConvoSet, direction};
+use crate::half::Half;
+use crate::{Convo, ConvoSet, DirTotal, direction};
 use evring::{Reason, Way};
 use prio_budget::Charge;
 use seqspace::{Seq, after};
@@ -40,6 +41,19 @@ fn sooner(time: Option<u64>, idle: u64) -> (u64, bool)
             }
         }
         None => (idle, true),
+    }
+}
+
+/// The totals of a direction, by what is kept of it.
+fn total_of<C: Charge>(half: &Half<C>, conv: u32, way: Way) -> DirTotal
+    ensures { result ≡ record { conv = conv; way = way; counts = half.now.counts; gaps = half.now.gaps; gap_bytes = half.now.gap_bytes } }
+{
+    DirTotal {
+        conv,
+        way,
+        counts: half.counts,
+        gaps: half.gaps,
+        gap_bytes: half.gap_bytes,
     }
 }
 
@@ -86,6 +100,17 @@ impl<C: Charge> Convo<C> {
                 let back = direction::due(&self.back.dir, &set.shape);
                 lesser(fore, back)
             }
+        }
+    }
+
+    /// What became of the bytes of a direction so far, and the gaps before the deliveries made so far. A count stands still at
+    /// its type's end.
+    pub fn total(&self, way: Way) -> DirTotal
+        ensures { (t : Terms) (k : Talk) → IsResting (charge_by C.amount C.stamp) t self.now k → IsTotal k.convo.first way (of_way way k.sums) result }
+    {
+        match way {
+            Way::Fore => total_of(&self.fore, self.origin.number, way),
+            Way::Back => total_of(&self.back, self.origin.number, way),
         }
     }
 

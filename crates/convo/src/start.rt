@@ -3,7 +3,7 @@ ghost use Rattle.convo.specs.Directions.{DirStands, dir_grants, dir_kind, dir_as
 ghost use Rattle.std.specs.Prelude.{◌≡◌, ℕ, [], option_map, Some, None};
 ghost use Rattle.cutclass.specs.InForce.{first_class};
 ghost use Rattle.streamdefs.specs.Terms.{Terms};
-ghost use Rattle.streamdefs.specs.Direction.{untouched};
+ghost use Rattle.streamdefs.specs.Direction.{no_counts, untouched};
 ghost use Rattle.flowdir.specs.Boundary.Phase.{Rests};
 ghost use Rattle.convo.specs.Left.{grants_left, work_left, work_of_half};
 ghost use Rattle.convo.specs.Halves.{weight_of_half};
@@ -11,7 +11,7 @@ ghost use Rattle.streamdefs.specs.Convo.{new_convo, class_cutoff, class_priority
 ghost use Rattle.flowdir.specs.Boundary.{charge_by, kind_of};
 ghost use Rattle.convo.specs.Seen.{packet_of};
 ghost use Rattle.convo.specs.Going.{charges_going};
-ghost use Rattle.convo.specs.Talk.{SetsUp, given_by, new_talk};
+ghost use Rattle.convo.specs.Talk.{SetsUp, given_by, kept_counts, new_talk};
 ghost use Rattle.convo.specs.Standing.{HasOrigin, IsResting, asked_of, last_of, weight_of_convo};
 
 use crate::flags::is_tcp;
@@ -73,6 +73,7 @@ impl<C: Charge> Half<C> {
         ensures asked { dir_asked result.dir ≡ None }
         ensures last { result.dir.last ≡ 0 }
         ensures bare { (result.own ≡ Cut.Unset) × (result.kept ≡ []) × (result.first ≡ None) }
+        ensures sums { (result.counts ≡ kept_counts no_counts) × (result.gaps ≡ 0) × (result.gap_bytes ≡ 0) }
         ensures grants { dir_grants result.dir ≡ 0 }
         ensures work { work_of_half result ≡ 0 }
         ensures weight { (w : C → ℕ) → weight_of_half w result ≡ 0 }

@@ -12,7 +12,7 @@ returns-in-Free-clause-turn g c = λ t k p looks frees s m w r h.
 
 pub returns-in-Done-clause-turn : goal.returns-in-Done-clause-turn
 returns-in-Done-clause-turn g c = λ t k p looks frees s m w r h.
-    done_at _ t k c.args.self.now c.count.new.self c.finish_segment.new.self c.hand_over.new.self c.args.set.now c.args.way c.args.reset p c.args.now looks frees c.in-Done.counts _ c.hand_over.result
+    done_at _ t k c.args.self.now c.count.new.self c.finish_segment.new.self c.hand_over.new.self c.args.set.now c.args.way c.args.reset p c.args.now looks frees c.in-Done.counts c.hand_over.result
     c.requires.stage s m w r (rw c.in-Done.is at h) c.count.ensures c.finish_segment.ensures.same c.finish_segment.ensures.owed (c.hand_over.ensures.turn t)
 
 pub returns-in-Done-clause-left : goal.returns-in-Done-clause-left

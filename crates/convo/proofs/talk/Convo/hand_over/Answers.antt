@@ -9,7 +9,7 @@ returns-then-self-clause-turn g c = λ t k events left.
 pub returns-in-Some-clause-turn : goal.returns-in-Some-clause-turn
 returns-in-Some-clause-turn g c = λ t k events left.
     rw (c.tell_chunk.ensures.want, c.tell_chunk.ensures.same)
-    (hand_fore _ t k c.args.self.now c.hand_over.new.self _ _ events c.if-self.false left c.in-Some.ensures.first c.in-Some.ensures.kept c.in-Some.ensures.own c.in-Some.ensures.kind)
+    (hand_fore _ t k c.args.self.now c.hand_over.new.self _ _ events c.if-self.false left c.in-Some.ensures.first c.in-Some.ensures.kept c.in-Some.ensures.own c.in-Some.ensures.kind c.in-Some.ensures.sums)
 
 pub returns-in-Some-clause-weight : goal.returns-in-Some-clause-weight
 returns-in-Some-clause-weight g c = λ w. rw (c.tell_chunk.ensures.want, c.tell_chunk.ensures.same) (let e = c.in-Some.ensures.weight w in omega arith)
@@ -17,8 +17,8 @@ returns-in-Some-clause-weight g c = λ w. rw (c.tell_chunk.ensures.want, c.tell_
 pub returns-in-Some-hand_over-clause-turn : goal.returns-in-Some-hand_over-clause-turn
 returns-in-Some-hand_over-clause-turn g c = λ t k events left.
     rw (c.tell_chunk-in-Some-hand_over.ensures.want, c.tell_chunk-in-Some-hand_over.ensures.same)
-    (let h = none_fore _ t k c.args.self.now c.hand_over.new.self events left c.in_default.ensures.first c.in_default.ensures.kept c.in_default.ensures.own c.in_default.ensures.kind in
-    hand_back _ t k _ c.hand_over-2.new.self _ _ events h.0 c.if-self.false h.1 c.in-Some-hand_over.ensures.first c.in-Some-hand_over.ensures.kept c.in-Some-hand_over.ensures.own c.in-Some-hand_over.ensures.kind)
+    (let h = none_fore _ t k c.args.self.now c.hand_over.new.self events left c.in_default.ensures.first c.in_default.ensures.kept c.in_default.ensures.own c.in_default.ensures.kind c.in_default.ensures.sums in
+    hand_back _ t k _ c.hand_over-2.new.self _ _ events h.0 c.if-self.false h.1 c.in-Some-hand_over.ensures.first c.in-Some-hand_over.ensures.kept c.in-Some-hand_over.ensures.own c.in-Some-hand_over.ensures.kind c.in-Some-hand_over.ensures.sums)
 
 pub returns-in-Some-hand_over-clause-weight : goal.returns-in-Some-hand_over-clause-weight
 returns-in-Some-hand_over-clause-weight g c = λ w. rw (c.tell_chunk-in-Some-hand_over.ensures.want, c.tell_chunk-in-Some-hand_over.ensures.same)

@@ -4,6 +4,7 @@ use Rattle.cutclass.specs.declared.cut.Cut.TheVariants.{Unset}
 use Rattle.convo.specs.Seen.{kept_for}
 use Rattle.convo.specs.Going.{weight_of_charges}
 use Rattle.convo.proofs.Settling.{untouched_settled}
+use Rattle.convo.proofs.SumSteps.{sums_new}
 use Rattle.convo.proofs.talk.Convo.new.Goals as goal
 
 pub returns-clause-stands : goal.returns-clause-stands
@@ -30,6 +31,8 @@ returns-clause-stands g c = λ t s.
         fore_first = fb.2;
         back_first = bb.2;
         gone = c.none.ensures;
+        fore_sums = sums_new c.new.result c.new.ensures.sums;
+        back_sums = sums_new c.new-2.result c.new-2.ensures.sums;
       };
       kinds = record { fore_is = c.new.ensures.kind ∙ c.mode_of-mode.ensures t s.mode; back_is = c.new-2.ensures.kind ∙ c.mode_of-mode.ensures t s.mode };
       fore = c.new.ensures.stands;
