@@ -1,6 +1,7 @@
 // What stories are written in.
 use cutclass::Cut;
-use evring::Reason;
+use evring::{Reason, Way};
+use flowdir::Counts;
 use overpolicy::Mode;
 
 pub(crate) const SECOND: u64 = 1_000_000_000;
@@ -27,7 +28,17 @@ pub(crate) enum Entry<'a> {
     Ends(Reason, u64),
     /// Whether a packet with SYN of its first sender, of this sequence number, begins another conversation.
     Replaced(u32, bool),
+    /// What became of the bytes of a direction so far, and its gaps and their bytes.
+    Totals(Way, Counts, u64, u64),
 }
+
+pub(crate) const NO_BYTES: Counts = Counts {
+    duplicate: 0,
+    late: 0,
+    cut: 0,
+    taken: 0,
+    shed: 0,
+};
 
 /// Advice on an event.
 #[derive(Clone, Copy)]

@@ -6,7 +6,7 @@ ghost use Rattle.convo.specs.Talk.{asked_in};
 
 use crate::lines::{Bytes, Entry, Line, NOTHING, SECOND, Said, Terms, Turn};
 use chunkpart::Chunk;
-use convo::{AnsweredEvent, Convo, ConvoSet, Want};
+use convo::{AnsweredEvent, Convo, ConvoSet, DirTotal, Want};
 use cutclass::{Classes, Cut, Cutoffs};
 use evring::{Advice, Event, Kept, Reason, Way};
 use overpolicy::{Policy, Shape};
@@ -499,6 +499,16 @@ fn is_so(
             let packet = packet(alloc, number, false, (CLIENT, SERVER), 0, seq, "S", NOTHING)?;
             Ok(convo.replaces(&packet) == wanted)
         }
+        Entry::Totals(way, counts, gaps, gap_bytes) => Ok(
+            convo.total(way)
+                == DirTotal {
+                    conv: 1,
+                    way,
+                    counts,
+                    gaps,
+                    gap_bytes,
+                },
+        ),
         _ => Ok(false),
     }
 }
@@ -544,7 +554,7 @@ fn begin(
             if is_so(alloc, convo, set, number, question)? {
                 Ok(Want::Rest)
             } else {
-                Err("another due, end or replacement".into())
+                Err("another due, end, replacement or total".into())
             }
         }
     }

@@ -1,8 +1,9 @@
 // Worked stories of one conversation.
-use crate::lines::{Entry, Line, NOTHING, PLAIN, SECOND, Said, Terms, Turn};
+use crate::lines::{Entry, Line, NO_BYTES, NOTHING, PLAIN, SECOND, Said, Terms, Turn};
 use crate::player::play;
 use cutclass::Cut;
-use evring::Reason;
+use evring::{Reason, Way};
+use flowdir::Counts;
 use overpolicy::Mode;
 use std::alloc::Global;
 use std::test::Fail;
@@ -86,6 +87,54 @@ const AN_ORDINARY_CONNECTION: &[Turn<'static>] = &[
     (Entry::Answer(Said::Nothing, &[(1460, 4), (300, 5)]), &[]),
     SEEN,
     (Entry::Back(100_009_000_000, 6762, "", NOTHING), &[]),
+    (
+        Entry::Totals(
+            Way::Fore,
+            Counts {
+                taken: 78,
+                ..NO_BYTES
+            },
+            0,
+            0,
+        ),
+        &[],
+    ),
+    (
+        Entry::Totals(
+            Way::Back,
+            Counts {
+                taken: 1760,
+                ..NO_BYTES
+            },
+            0,
+            0,
+        ),
+        &[],
+    ),
+];
+
+const BYTES_COME_TWICE: &[Turn<'static>] = &[
+    (Entry::Fore(0, 999, "S", NOTHING), &[Line::New]),
+    SEEN,
+    (
+        Entry::Fore(1, 1000, "", ("a", 8)),
+        &[Line::Granted(8, 0, 0)],
+    ),
+    (Entry::Fore(2, 1002, "", ("a", 4)), &[]),
+    (
+        Entry::Totals(
+            Way::Fore,
+            Counts {
+                duplicate: 4,
+                taken: 8,
+                ..NO_BYTES
+            },
+            0,
+            0,
+        ),
+        &[],
+    ),
+    (Entry::Totals(Way::Back, NO_BYTES, 0, 0), &[]),
 ];
 
 const BYTES_ARE_CUT: &[Turn<'static>] = &[
@@ -98,6 +147,19 @@ const BYTES_ARE_CUT: &[Turn<'static>] = &[
     (
         Entry::Fore(2, 1008, "", ("a", 6)),
         &[Line::Granted(2, 1, 8)],
+    ),
+    (
+        Entry::Totals(
+            Way::Fore,
+            Counts {
+                cut: 4,
+                taken: 10,
+                ..NO_BYTES
+            },
+            0,
+            0,
+        ),
+        &[],
     ),
     (
         Entry::End(2, Reason::Finish),
@@ -209,11 +271,37 @@ const A_HOLE_FALLS_DUE: &[Turn<'static>] = &[
     (Entry::Due(301_000_000_000, true), &[]),
     (Entry::Fore(3_000_000_000, 100, "", ("a", 5)), &[]),
     (
+        Entry::Totals(
+            Way::Fore,
+            Counts {
+                late: 5,
+                taken: 5,
+                ..NO_BYTES
+            },
+            0,
+            0,
+        ),
+        &[],
+    ),
+    (
         Entry::End(3_000_000_000, Reason::Finish),
         &[
             Line::ForeData(5, 5, NOTHING, ("b", 5)),
             Line::Over(Reason::Finish),
         ],
+    ),
+    (
+        Entry::Totals(
+            Way::Fore,
+            Counts {
+                late: 5,
+                taken: 5,
+                ..NO_BYTES
+            },
+            1,
+            5,
+        ),
+        &[],
     ),
     (Entry::Answer(Said::Nothing, &[(5, 1)]), &[]),
     SEEN,
@@ -278,6 +366,19 @@ const A_MARK_IS_PASSED: &[Turn<'static>] = &[
             Line::Over(Reason::Finish),
         ],
     ),
+    (
+        Entry::Totals(
+            Way::Fore,
+            Counts {
+                taken: 6000,
+                shed: 1000,
+                ..NO_BYTES
+            },
+            0,
+            0,
+        ),
+        &[],
+    ),
 ];
 
 const ANOTHER_BEGINS: &[Turn<'static>] = &[
@@ -337,6 +438,7 @@ const IT_IS_IDLE: &[Turn<'static>] = &[
 
 const STORIES: &[Story<'static>] = &[
     ("an ordinary connection", PLAIN, AN_ORDINARY_CONNECTION, 0),
+    ("bytes come twice", PLAIN, BYTES_COME_TWICE, 8),
     ("bytes are cut", CUT_AT_TEN, BYTES_ARE_CUT, 0),
     ("all bytes are cut", CUT_AT_ONCE, ALL_BYTES_ARE_CUT, 0),
     ("a chunk is kept", SMALL_CHUNKS, A_CHUNK_IS_KEPT, 0),
