@@ -5,8 +5,8 @@ use cutclass::Cutoffs;
 use overpolicy::Shape;
 use prio_budget::Marks;
 
-/// What is set for every conversation: how its streams are put together, where they are cut, and how far each priority may
-/// fill the memory.
+/// What is set for every conversation: how its streams are put together, where they are cut, and how far each priority
+/// may fill the memory.
 #[derive(Debug, Drop)]
 pub struct ConvoSet {
     pub shape: Shape,

@@ -112,8 +112,8 @@ pub(crate) fn freed<C: Charge>(dir: &mut Dir<C>) -> Result<Step<C>, Memory>
     dir.freed()
 }
 
-/// What falls due at a moment is passed. Where nothing does, nothing is done; where something fell due before, it is answered
-/// with want of memory, since that comes first.
+/// What falls due at a moment is passed. Where nothing does, nothing is done; where something fell due before, it is
+/// answered with want of memory, since that comes first.
 pub(crate) fn time<C: Charge>(
     dir: &mut Dir<C>,
     alloc: Global,
@@ -161,8 +161,8 @@ fn fall_due<C: Charge>(
     dir.time(alloc, shape, at)
 }
 
-/// Whether something is due at a moment, and nothing before. Answered with want of memory where something fell due before, or
-/// where a time of the settings can't be added to a moment.
+/// Whether something is due at a moment, and nothing before. Answered with want of memory where something fell due
+/// before, or where a time of the settings can't be added to a moment.
 fn is_due<C: Charge>(dir: &Dir<C>, shape: &Shape, at: u64) -> Result<bool, Memory>
     ensures yes { IfOk result (λ b. b ≡ true → dir_due shape.now.hole shape.now.flush dir.now ≡ Some at) }
     ensures no { IfOk result (λ b. b ≡ false → IsBehind at (dir_due shape.now.hole shape.now.flush dir.now)) }

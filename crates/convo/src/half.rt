@@ -21,8 +21,8 @@ use prio_budget::Charge;
 use std::alloc::Global;
 use std::mem;
 
-/// What is kept of one direction of a conversation: what has come in it, the cutoff that advice set, the chunks that are kept,
-/// the first chunk of those that are handed over, once it was looked for, and its sums.
+/// What is kept of one direction of a conversation: what has come in it, the cutoff that advice set, the chunks that
+/// are kept, the first chunk of those that are handed over, once it was looked for, and its sums.
 #[derive(Drop)]
 pub struct Half<C: Charge> {
     pub dir: Dir<C>,

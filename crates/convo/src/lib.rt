@@ -1,8 +1,7 @@
 //! Conversations: what is set for all of them, and each one: what it asks for, hands over and gives back at each entry.
-//! What each call answers, and what a conversation stands for behind it, is what the definition of a conversation says of the
-//! entry under way.
-//! Stands on flowdir (one direction), evring, chunkpart, cutclass, prio_budget, seqspace, streamkey and the definitions of
-//! streamdefs.
+//! What each call answers, and what a conversation stands for behind it, is what the definition of a conversation says
+//! of the entry under way. Stands on flowdir (one direction), evring, chunkpart, cutclass, prio_budget, seqspace,
+//! streamkey and the definitions of streamdefs.
 #![tactic(auto)]
 
 mod answer;

@@ -1,7 +1,8 @@
 use cutclass::Cut;
 use streamkey::{Key, Toward};
 
-/// What a conversation's first packet settled: its number, its key and way, and the priority and the cutoff of its class.
+/// What a conversation's first packet settled: its number, its key and way, and the priority and the cutoff of its
+/// class.
 #[derive(Clone, Copy, Debug, PartialEq, Eq)]
 pub struct Origin {
     pub number: u32,

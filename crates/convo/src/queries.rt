@@ -103,8 +103,8 @@ impl<C: Charge> Convo<C> {
         }
     }
 
-    /// What became of the bytes of a direction so far, and the gaps before the deliveries made so far. A count stands still at
-    /// its type's end.
+    /// What became of the bytes of a direction so far, and the gaps before the deliveries made so far. A count stands
+    /// still at its type's end.
     pub fn total(&self, way: Way) -> DirTotal
         ensures { (t : Terms) (k : Talk) → IsResting (charge_by C.amount C.stamp) t self.now k → IsTotal k.convo.first way (of_way way k.sums) result }
     {
