@@ -14,8 +14,8 @@ pub(crate) const NOTHING: Bytes<'static> = ("", 0);
 /// What comes to a conversation, or what is asked of it.
 #[derive(Clone, Copy)]
 pub(crate) enum Entry<'a> {
-    /// A packet of the first packet's sender, and one of the other end: its clock, sequence number, flags (S: SYN, F: FIN,
-    /// R: RST) and payload.
+    /// A packet of the first packet's sender, and one of the other end: its clock, sequence number, flags (S: SYN, F:
+    /// FIN, R: RST) and payload.
     Fore(u64, u32, &'a str, Bytes<'a>),
     Back(u64, u32, &'a str, Bytes<'a>),
     /// The next event is answered by this advice, and a worker gives these charges back: bytes and stamp of each.
@@ -26,6 +26,8 @@ pub(crate) enum Entry<'a> {
     Due(u64, bool),
     /// The End that is due.
     Ends(Reason, u64),
+    /// Whether it has ended.
+    Ended(bool),
     /// Whether a packet with SYN of its first sender, of this sequence number, begins another conversation.
     Replaced(u32, bool),
     /// What became of the bytes of a direction so far, and its gaps and their bytes.
@@ -67,7 +69,8 @@ pub(crate) enum Line<'a> {
 /// An entry with what it wants.
 pub(crate) type Turn<'a> = (Entry<'a>, &'a [Line<'a>]);
 
-/// Settings of a story: the mode, the fewest bytes of a chunk, the cutoff of all streams, the idle time, and the budget.
+/// Settings of a story: the mode, the fewest bytes of a chunk, the cutoff of all streams, the idle time, and the
+/// budget.
 #[derive(Clone, Copy)]
 pub(crate) struct Terms {
     pub(crate) mode: Mode,

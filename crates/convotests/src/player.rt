@@ -1,4 +1,5 @@
-// Plays a story: each entry comes to the conversation, and what it wants is answered, which has to be the story's lines.
+// Plays a story: each entry comes to the conversation, and what it wants is answered, which has to be the story's
+// lines.
 ghost use Rattle.std.specs.Prelude.{◌≡◌, ℕ, ◌<◌, ◌≤◌, ◌^◌, [], length, Some, None, IfSome, IfOk, OnOk};
 ghost use Rattle.convo.specs.Going.{charges_going};
 ghost use Rattle.convo.specs.Standing.{IsAskWithin, IsRest, asked_of, last_of};
@@ -374,8 +375,8 @@ fn advice_of(said: Said) -> Advice {
     }
 }
 
-/// What a worker does with an event by its advice: it keeps the chunks, or gives their charges back. Gives which event it was,
-/// and the chunks that come back.
+/// What a worker does with an event by its advice: it keeps the chunks, or gives their charges back. Gives which event
+/// it was, and the chunks that come back.
 fn work(
     alloc: Global,
     budget: &mut PlainBudget,
@@ -493,7 +494,10 @@ fn is_so(
     requires idle { set.now.shape.idle ≤ 2 ^ 62 }
 {
     match entry {
-        Entry::Due(at, idle) => Ok(convo.due(set) == Some((at, idle))),
+        Entry::Due(at, idle) => Ok(
+            convo.due(set) == Some((at, idle)) && (idle || convo.time_due(set) == Some(at)),
+        ),
+        Entry::Ended(wanted) => Ok(convo.is_ended() == wanted),
         Entry::Ends(reason, at) => Ok(convo.ending() == Some((reason, at))),
         Entry::Replaced(seq, wanted) => {
             let packet = packet(alloc, number, false, (CLIENT, SERVER), 0, seq, "S", NOTHING)?;
@@ -560,7 +564,22 @@ fn begin(
     }
 }
 
-/// All entries of a story, of which the first is a packet of the conversation's first sender. Gives the bytes in use behind it.
+/// What a conversation still has is given back, of which there are less than a hundred charges.
+fn drain(convo: &mut Convo<PlainCharge>, budget: &mut PlainBudget) -> Result<(), Fail> {
+    'charges: for _ in 0..100 {
+        let Some(charge) = convo.drain() else {
+            return Ok(());
+        };
+        if charge.amount() > budget.used() {
+            return Err("more is drained than is in use".into());
+        }
+        budget.release(charge);
+    }
+    Err("a conversation is never drained".into())
+}
+
+/// All entries of a story, of which the first is a packet of the conversation's first sender. Gives the bytes in use
+/// behind it, once the conversation was drained.
 pub(crate) fn play(alloc: Global, terms: &Terms, turns: &[Turn<'_>]) -> Result<u32, Fail> {
     let set = settings(alloc, terms)?;
     let Some((Entry::Fore(now, seq, flags, bytes), _)) = turns.first() else {
@@ -605,5 +624,6 @@ pub(crate) fn play(alloc: Global, terms: &Terms, turns: &[Turn<'_>]) -> Result<u
             lines,
         )?;
     }
+    drain(&mut convo, &mut budget)?;
     Ok(budget.used())
 }

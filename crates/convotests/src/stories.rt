@@ -8,7 +8,8 @@ use overpolicy::Mode;
 use std::alloc::Global;
 use std::test::Fail;
 
-/// A story: its settings, what it is, and the bytes that are in use behind it.
+/// A story: its settings, what it is, and the bytes that are in use behind it, once what the conversation still has was
+/// drained.
 type Story<'a> = (&'a str, Terms, &'a [Turn<'a>], u32);
 
 const CUT_AT_TEN: Terms = Terms {
@@ -245,6 +246,7 @@ const A_RESET: &[Turn<'static>] = &[
     ),
     (Entry::Back(2, 0, "R", NOTHING), &[]),
     (Entry::Ends(Reason::Reset, 2), &[]),
+    (Entry::Ended(false), &[]),
     (
         Entry::End(2, Reason::Reset),
         &[
@@ -252,6 +254,7 @@ const A_RESET: &[Turn<'static>] = &[
             Line::Over(Reason::Reset),
         ],
     ),
+    (Entry::Ended(true), &[]),
     (Entry::Fore(3, 1011, "", ("a", 5)), &[]),
     (Entry::Replaced(9000, true), &[]),
     (Entry::Replaced(1000, false), &[]),
@@ -438,7 +441,7 @@ const IT_IS_IDLE: &[Turn<'static>] = &[
 
 const STORIES: &[Story<'static>] = &[
     ("an ordinary connection", PLAIN, AN_ORDINARY_CONNECTION, 0),
-    ("bytes come twice", PLAIN, BYTES_COME_TWICE, 8),
+    ("bytes come twice", PLAIN, BYTES_COME_TWICE, 0),
     ("bytes are cut", CUT_AT_TEN, BYTES_ARE_CUT, 0),
     ("all bytes are cut", CUT_AT_ONCE, ALL_BYTES_ARE_CUT, 0),
     ("a chunk is kept", SMALL_CHUNKS, A_CHUNK_IS_KEPT, 0),
