@@ -121,6 +121,16 @@ impl<C: Charge> Chunk<C> {
         self.fresh_len
     }
 
+    /// The number of parts: the copy, where there is one, and the fresh parts.
+    pub fn parts(&self) -> usize
+        ensures { result ≡ length (parts_of self.now) }
+    {
+        match &self.tail {
+            Some(_) => self.fresh.len() + 1,
+            None => self.fresh.len(),
+        }
+    }
+
     /// Appends the copy and the fresh bytes. At want of memory `out` holds what it held.
     pub fn shown(&self, out: &mut Vec<u8>) -> Result<(), Memory>
         ensures ok { OnOk result (out.new.items ≡ out.old.items ++ shown_bytes self.now) }

@@ -134,18 +134,20 @@ fn parts_are_given_once_in_order(rt: HostRuntime) -> Result<(), Fail> {
     let alloc = rt.alloc();
     let mut chunk = chunk_of(alloc, 1400, 20, "or", "der|| in|")?;
     let rows = [
-        ("or", 2, 7, 0, 6),
-        ("der", 3, 8, 0, 3),
-        ("", 0, 9, 0, 3),
-        (" in", 3, 10, 0, 0),
+        ("or", 2, 7, 0, 6, 3),
+        ("der", 3, 8, 0, 3, 2),
+        ("", 0, 9, 0, 3, 1),
+        (" in", 3, 10, 0, 0, 0),
     ];
-    for (bytes, amount, stamp, tail_len, fresh_len) in rows {
+    assert_eq!(rt; chunk.parts(), 4);
+    for (bytes, amount, stamp, tail_len, fresh_len, left) in rows {
         let (taken, charge) = take(&mut chunk)?;
         assert_eq!(rt; taken.as_slice(), bytes.as_bytes());
         assert_eq!(rt; charge.amount(), amount);
         assert_eq!(rt; charge.stamp(), stamp);
         assert_eq!(rt; chunk.tail_len(), tail_len);
         assert_eq!(rt; chunk.fresh_len(), fresh_len);
+        assert_eq!(rt; chunk.parts(), left);
     }
     assert!(rt; chunk.take_part().is_none());
     assert!(rt; chunk.take_part().is_none());

@@ -1,5 +1,5 @@
 -- What stands where nothing was written.
-use Rattle.std.proofs.Common.{◌≡◌, ℕ, List, refl, ap, sym, append-nil}
+use Rattle.std.proofs.Common.{ℕ, List, refl, ap, sym, append-nil}
 use Rattle.std.specs.Prelude.{Option, Some, None, Result, Ok, Err, OnErr}
 use Rattle.scap_world.specs.Contents.{GainsFront}
 

@@ -111,6 +111,11 @@ impl<H: Handler, K: Sink, C: Charge> Worker<H, K, C> {
         ensures kept { OnErr result ((core_in_hand self.new ≡ core_in_hand self.old) × (frees_in_hand self.new ≡ frees_in_hand self.old) × (pause self.new ≡ Still) × (charges_in_hand self.new ≡ charges_in_hand self.old)) }
         ensures kept_left { OnErr result (work_left self.new ≡ work_left self.old) }
 
+        // All memory of an event, but what the sink takes, is taken before the handler is called: only the first turn can fail, and
+        // before a charge goes out.
+        ensures told { begun self.old ≡ true → IsOk result }
+        ensures untold { OnErr result (begun self.new ≡ false) }
+
         ensures calm { OnOk result (calm_of self.new ≡ calm_of self.old) }
         ensures fault { OnErr result (calm_of self.new ≡ false) }
         ensures drains { calm_of self.old ≡ false → IsOk result × (sink_of self.new ≡ sink_of self.old) }
@@ -121,9 +126,9 @@ impl<H: Handler, K: Sink, C: Charge> Worker<H, K, C> {
         match mem::replace(&mut self.work, Work::Nothing) {
             Work::Nothing => Ok(WorkTurn::Ready),
             Work::Loaded { core, event } => self.begin(core, event),
-            Work::Releases { release } => self.go_on(release),
+            Work::Releases { release } => Ok(self.go_on(release)),
             // Not reached: what is out is released before this call.
-            Work::Waits { release, .. } => self.go_on(release),
+            Work::Waits { release, .. } => Ok(self.go_on(release)),
         }
     }
 

@@ -4,7 +4,7 @@ use Rattle.scap_world.specs.Contents.{GainsFront}
 use Rattle.chunkpart.specs.ChunkParts.{ChunkParts}
 use Rattle.evring.specs.declared.advice.Advice.{Advice}
 use Rattle.evring.specs.declared.event.Event.{Event}
-use Rattle.evring.specs.declared.event.Event.TheVariants.{New, Chunk, Ended}
+use Rattle.evring.specs.declared.event.Event.TheVariants.{Chunk}
 use Rattle.streamdefs.specs.Handler.{event_line}
 use Rattle.handler.specs.Seen.{conv_of, seen_in}
 use Rattle.workrun.specs.declared.scribe.Scribe.{Scribe}
