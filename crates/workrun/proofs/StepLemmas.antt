@@ -1,9 +1,7 @@
 -- What a worker's step makes of the event in hand.
-use Rattle.std.proofs.Common.{◌≡◌, ℕ, zero, suc, ◌+◌, List, [], ◌∷◌, ◌++◌, map, take, drop, length, refl, ap, ◌∙◌, sym, arith}
+use Rattle.std.proofs.Common.{◌≡◌, ℕ, zero, suc, List, [], ◌∷◌, ◌++◌, map, take, drop, length, refl, ap, ◌∙◌, sym}
 use Rattle.std.specs.Prelude.{Bool, true, false, cond, Option, Some, None, slice_get, unwrap_or}
 use Rattle.prio_budget.specs.declared.free.Free.{Free}
-use Rattle.prio_budget.specs.History.{total}
-use Rattle.prio_budget.proofs.Totals.{total_append}
 use Rattle.chunkpart.specs.ChunkParts.{ChunkParts}
 use Rattle.evring.specs.declared.advice.Advice.{Advice}
 use Rattle.evring.specs.declared.event.Event.{Event}
@@ -180,7 +178,3 @@ tells_on amount stamp handler h work (turns.Answer core a) w = record {
   hand = w.hand;
 }
 tells_on amount stamp handler h work turns.Ready w = absurd w.is_work
-
--- sums of charges that go out
-pub weighed : {C : Type 0} (by : C → ℕ) (before out after : List C) → before ≡ out ++ after → total by after + total by out ≡ total by before
-weighed by before out after e = omega (arith, ap (total by) e, total_append by out after)

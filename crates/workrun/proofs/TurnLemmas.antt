@@ -1,11 +1,11 @@
 -- Turns and faults, by what the calls below answered.
-use Rattle.std.proofs.Common.{◌≡◌, ℕ, ◌+◌, ◌*◌, ◌<◌, List, [], ◌∷◌, ◌++◌, take, length, refl, ap, ◌∙◌, sym, subst, arith, append-nil}
+use Rattle.std.proofs.Common.{◌≡◌, ℕ, ◌+◌, ◌*◌, ◌<◌, List, [], ◌∷◌, ◌++◌, length, refl, ap, ◌∙◌, sym, subst, arith, append-nil}
 use Rattle.std.specs.Prelude.{Bool, true, false, not, Option, Some, None, Result, Ok, Err, IfOk, OnErr}
 use Rattle.std.proofs.lemmas.Grind.{flat_map-append}
 use Rattle.std.proofs.lemmas.List.Concat.{flat_map-cons}
 use Rattle.prio_budget.specs.declared.free.Free.{Free}
 use Rattle.prio_budget.specs.History.{total}
-use Rattle.scap_world.specs.Contents.{extended, GainsFront}
+use Rattle.scap_world.specs.Contents.{extended, GainsPart}
 use Rattle.chunkpart.specs.ChunkParts.{ChunkParts}
 use Rattle.evring.specs.Advice.{no_advice}
 use Rattle.evring.specs.declared.advice.Advice.{Advice}
@@ -116,17 +116,6 @@ given_worked {C} amount stamp handler h r r1 c (Waits b g r') turn s el ec ea ef
 
 -- Faults
 
-take_whole : {X : Type 0} (xs : List X) → take (length xs) xs ≡ xs
-take_whole [] = refl
-take_whole {X} (x ∷ xs) = ap (λ (ys : List X). x ∷ ys) (take_whole xs)
-
-pub gained_all : {T E : Type 0} (r : Result T E) (old new : Option (List ℕ)) (line : List ℕ) → new ≡ extended old line → OnErr r (GainsFront old new line)
-gained_all (Ok t) old new line e = tt
-gained_all (Err f) old new line e = (length line, e ∙ ap (λ (l : List ℕ). extended old l) (sym (take_whole line)))
-
-pub cause_on : {T U : Type 0} (a b c : ℕ) (r : Result T WorkFault) (q : Result U WorkFault) → HasCause a b r → HasCause b c q → HasCause a c q
-cause_on a b c r q x y = record { later = omega (arith, x.later, y.later); write = λ e. (let h = y.write e in omega (arith, x.later, h)) }
-
 cause_err : {T U : Type 0} (a b : ℕ) (f : WorkFault) → HasCause {T = T} a b (Err f) → HasCause {T = U} a b (Err f)
 cause_err a b faults.Memory x = record { later = x.later; write = λ e. absurd (cc) }
 cause_err a b faults.Write x = record { later = x.later; write = λ e. x.write refl }
@@ -140,7 +129,7 @@ extended_none None = refl
 extended_none (Some held) = ap Some (sym (append-nil held))
 
 -- an event that was told and answered at once
-pub close_front : {T : Type 0} (told : Result Advice WorkFault) (result : Result T WorkFault) (answer : Advice → T) (old mid new : Option (List ℕ)) (line : List ℕ) → OnErr told (GainsFront old mid line) → new ≡ mid → IfOk told (λ a. result ≡ Ok (answer a)) → OnErr result (GainsFront old new line)
-close_front {T} (Ok a) result answer old mid new line f e ok = subst (λ (r : Result T WorkFault). OnErr r (GainsFront old new line)) (sym ok) tt
+pub close_front : {T : Type 0} (told : Result Advice WorkFault) (result : Result T WorkFault) (answer : Advice → T) (old mid new : Option (List ℕ)) (line : List ℕ) → OnErr told (GainsPart old mid line) → new ≡ mid → IfOk told (λ a. result ≡ Ok (answer a)) → OnErr result (GainsPart old new line)
+close_front {T} (Ok a) result answer old mid new line f e ok = subst (λ (r : Result T WorkFault). OnErr r (GainsPart old new line)) (sym ok) tt
 close_front {T} (Err x) (Ok t) answer old mid new line f e ok = tt
-close_front {T} (Err x) (Err y) answer old mid new line f e ok = subst (λ (o : Option (List ℕ)). GainsFront old o line) (sym e) f
+close_front {T} (Err x) (Err y) answer old mid new line f e ok = subst (λ (o : Option (List ℕ)). GainsPart old o line) (sym e) f

@@ -1,5 +1,5 @@
 ghost use Rattle.std.specs.Prelude.{◌≡◌, ◌+◌, ◌<◌, ◌≤◌, ◌++◌, ◌∷◌, ◌⊎◌, ℕ, [], Some, None, IfOk, OnOk, OnErr, IsOk, true, false, length, slice_get};
-ghost use Rattle.scap_world.specs.Contents.{extended, GainsFront};
+ghost use Rattle.scap_world.specs.Contents.{extended, GainsPart};
 ghost use Rattle.evring.specs.Charges.{charges_in};
 ghost use Rattle.prio_budget.specs.History.{total};
 ghost use Rattle.workrun.specs.Circle.{IsOwn, count_of, place_of, round_from};
@@ -90,13 +90,13 @@ impl<H: Handler, K: Sink, C: Charge> Worker<H, K, C> {
     pub fn next(&mut self) -> Result<WorkTurn<C>, WorkFault>
         requires still { pause self.old ≡ Still }
 
-        // The turn is what is to be done for the event in hand, and the event's line is written once.
+        // The turn is what is to be done for the event in hand, and the event's line is written once. At a fault it is not all written.
         ensures work { (x : AtWork C) → Stands C.amount C.stamp H.advice x self.old
             → IfOk result (λ turn. IsWork C.amount (H.advice (handler_of self.old)) x.hand turn × Stands C.amount C.stamp H.advice (behind (H.advice (handler_of self.old)) x turn) self.new) }
         ensures line { (x : AtWork C) → Stands C.amount C.stamp H.advice x self.old
             → IfOk result (λ turn. K.held (sink_of self.new) ≡ extended (K.held (sink_of self.old)) (line_due x.hand)) }
         ensures front { (x : AtWork C) → Stands C.amount C.stamp H.advice x self.old
-            → OnErr result (GainsFront (K.held (sink_of self.old)) (K.held (sink_of self.new)) (line_due x.hand)) }
+            → OnErr result (GainsPart (K.held (sink_of self.old)) (K.held (sink_of self.new)) (line_due x.hand)) }
 
         // In every mode.
         ensures fits { IfOk result (FitsHand (core_in_hand self.old) (frees_in_hand self.old) (calm_of self.old)) }

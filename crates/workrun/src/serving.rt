@@ -1,6 +1,6 @@
 ghost use Rattle.std.specs.Prelude.{◌≡◌, ◌-◌, ◌<◌, ◌≤◌, ◌++◌, ◌∷◌, [], length, flat_map, IfOk, IfErr, OnOk, OnErr, IsOk, true, false, vec_len, ℕ, None, Ok, Err, not};
 ghost use Rattle.std.specs.Vec.{vec_capacity};
-ghost use Rattle.scap_world.specs.Contents.{GainsFront};
+ghost use Rattle.scap_world.specs.Contents.{GainsPart};
 ghost use Rattle.chunkpart.specs.ChunkParts.{copied_bytes, shown_bytes};
 ghost use Rattle.evring.specs.Advice.{no_advice};
 ghost use Rattle.evring.specs.Charges.{charges_in, charges_of, charges_of_all};
@@ -30,7 +30,7 @@ impl<H: Handler, K: Sink, C: Charge> Worker<H, K, C> {
     pub(crate) fn begin(&mut self, core: u16, event: Event<C>) -> Result<WorkTurn<C>, WorkFault>
         requires empty { self.old.work ≡ Work.Nothing }
         ensures served { self.old.calm ≡ true → IfOk result (Served C.amount C.stamp H.advice K.held self.old.scribe self.new.scribe core event self.new.work) }
-        ensures front { OnErr result (GainsFront (K.held self.old.scribe.sink) (K.held self.new.scribe.sink) (event_line (conv_of event) (seen_in event))) }
+        ensures front { OnErr result (GainsPart (K.held self.old.scribe.sink) (K.held self.new.scribe.sink) (event_line (conv_of event) (seen_in event))) }
         ensures turned { IfOk result (Turned C.amount C.stamp core [] (charges_in event) self.old.calm self.new.work) }
         ensures stayed { OnErr result (Stayed core [] (charges_in event) self.new.work) }
         ensures calm { OnOk result (self.new.calm ≡ self.old.calm) }
@@ -121,7 +121,7 @@ impl<H: Handler, K: Sink, C: Charge> Worker<H, K, C> {
         requires empty { self.old.work ≡ Work.Nothing }
         requires calm { self.old.calm ≡ true }
         ensures served { IfOk result (Served C.amount C.stamp H.advice K.held self.old.scribe self.new.scribe core (Event.Chunk conv way key kept.items chunk) self.new.work) }
-        ensures front { OnErr result (GainsFront (K.held self.old.scribe.sink) (K.held self.new.scribe.sink) (event_line conv (seen_in (Event.Chunk conv way key kept.items chunk)))) }
+        ensures front { OnErr result (GainsPart (K.held self.old.scribe.sink) (K.held self.new.scribe.sink) (event_line conv (seen_in (Event.Chunk conv way key kept.items chunk)))) }
         ensures turned { IfOk result (Turned C.amount C.stamp core [] (charges_in (Event.Chunk conv way key kept.items chunk)) true self.new.work) }
         ensures stayed { OnErr result (Stayed core [] (charges_in (Event.Chunk conv way key kept.items chunk)) self.new.work) }
         ensures calm { OnOk result (self.new.calm ≡ true) }
@@ -226,6 +226,7 @@ impl<H: Handler, K: Sink, C: Charge> Worker<H, K, C> {
 }
 
 /// Makes room for the releases of a chunk and for the chunk among the kept ones, and tells of it.
+#[tactic(auto, using(crate::proofs::TellingLemmas::none_data))]
 fn tell_chunk<H: Handler, K: Sink, C: Charge>(
     scribe: &mut Scribe<H, K>,
     core: u16,
@@ -237,7 +238,7 @@ fn tell_chunk<H: Handler, K: Sink, C: Charge>(
     chunk: &Chunk<C>,
 ) -> Result<Advice, WorkFault>
     ensures told { IfOk result (IsTold H.advice K.held scribe.old scribe.new core conv (Data key.now way chunk.now.start chunk.now.gap (length (copied_bytes chunk.now)) (flat_map shown_bytes kept.old.items) (shown_bytes chunk.now))) }
-    ensures front { OnErr result (GainsFront (K.held scribe.old.sink) (K.held scribe.new.sink) (event_line conv (Data key.now way chunk.now.start chunk.now.gap (length (copied_bytes chunk.now)) (flat_map shown_bytes kept.old.items) (shown_bytes chunk.now)))) }
+    ensures front { OnErr result (GainsPart (K.held scribe.old.sink) (K.held scribe.new.sink) (event_line conv (Data key.now way chunk.now.start chunk.now.gap (length (copied_bytes chunk.now)) (flat_map shown_bytes kept.old.items) (shown_bytes chunk.now)))) }
     ensures cause { HasCause (K.faults scribe.old.sink) (K.faults scribe.new.sink) result }
     ensures handler { scribe.new.handler ≡ scribe.old.handler }
     ensures kept { kept.new.items ≡ kept.old.items }
@@ -245,9 +246,24 @@ fn tell_chunk<H: Handler, K: Sink, C: Charge>(
     ensures places { OnOk result (length (charges_of_all kept.new.items ++ charges_of chunk.now) ≤ vec_capacity frees.new - vec_len frees.new) }
     ensures room { OnOk result (vec_len kept.new < vec_capacity kept.new) }
 {
+    make_room(frees, kept, chunk)?;
+    scribe.tell_chunk(core, conv, way, key, kept, chunk)
+}
+
+/// Makes room for the releases of a chunk and of those that ride with it, and for the chunk among these.
+fn make_room<C: Charge>(
+    frees: &mut Vec<Free>,
+    kept: &mut Vec<Chunk<C>>,
+    chunk: &Chunk<C>,
+) -> Result<(), chunkpart::Memory>
+    ensures kept { kept.new.items ≡ kept.old.items }
+    ensures frees { frees.new.items ≡ frees.old.items }
+    ensures places { OnOk result (length (charges_of_all kept.new.items ++ charges_of chunk.now) ≤ vec_capacity frees.new - vec_len frees.new) }
+    ensures room { OnOk result (vec_len kept.new < vec_capacity kept.new) }
+{
     frees.reserve(count_charges(kept, chunk)?)?;
     kept.reserve(1)?;
-    scribe.tell_chunk(core, conv, way, key, kept, chunk)
+    Ok(())
 }
 
 /// The number of charges of a chunk and of those that ride with it.

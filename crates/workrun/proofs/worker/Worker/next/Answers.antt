@@ -1,6 +1,6 @@
 use Rattle.std.proofs.Common.{ℕ, List, ◌∙◌, ap, sym, subst}
 use Rattle.std.specs.Prelude.{OnErr}
-use Rattle.scap_world.specs.Contents.{GainsFront, extended}
+use Rattle.scap_world.specs.Contents.{GainsPart, extended}
 use Rattle.workrun.specs.declared.scribe.Scribe.{Scribe}
 use Rattle.workrun.proofs.StandLemmas.{line_loaded, line_told, stands_on}
 use Rattle.workrun.proofs.TurnLemmas.{extended_none}
@@ -8,7 +8,7 @@ use Rattle.workrun.proofs.worker.Worker.next.Goals as goal
 
 pub returns-in-Loaded-clause-front : goal.returns-in-Loaded-clause-front
 returns-in-Loaded-clause-front g c = λ x s.
-    subst (λ (l : List ℕ). OnErr c.begin.result (GainsFront (g.K.Sink.held c.args.self.now.scribe.sink) (g.K.Sink.held c.begin.new.self.scribe.sink) l))
+    subst (λ (l : List ℕ). OnErr c.begin.result (GainsPart (g.K.Sink.held c.args.self.now.scribe.sink) (g.K.Sink.held c.begin.new.self.scribe.sink) l))
     (sym (line_loaded g.C.Charge.amount g.C.Charge.stamp g.H.Handler.advice x c.args.self.now c.in-Loaded.core c.in-Loaded.event s (sym c.replace.ensures.value ∙ c.in-Loaded.is))) c.begin.ensures.front
 
 pub returns-in-Releases-clause-work : goal.returns-in-Releases-clause-work
