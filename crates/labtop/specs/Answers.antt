@@ -5,7 +5,7 @@ use Rattle.scapconf.specs.declared.settings.Settings.{Settings}
 use Rattle.scapconf.specs.Faults.{IsFault}
 use Rattle.scapconf.specs.declared.limits.TheConstants.{LONGEST_TEXT}
 use Rattle.scapconf.specs.declared.status.Status.{Status}
-use Rattle.scapconf.specs.declared.status.Status.TheVariants.{Done, Memory, Usage, Settings as Faulty, ReadFault, WriteFault, NotPcap, BadRecord, CutShort, TooLong, Unbuilt}
+use Rattle.scapconf.specs.declared.status.Status.TheVariants.{Memory, Settings as Faulty, ReadFault, NotPcap}
 use Rattle.histbook.specs.declared.journal.Journal.{Journal}
 use Rattle.streamdefs.specs.Terms.{Terms}
 use Rattle.labtop.specs.Headline.{IsRun, delivery_for, report_for}
