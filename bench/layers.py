@@ -7,11 +7,12 @@
 4 threads ask the budget word, and a plain budget behind a lock, 1,000,000 times each, and release at once what is
 granted. `dues`: moments are set for 10,000, 100,000 and 1,000,000 ids, set anew, and taken out as they fall due.
 `order`: a direction takes 10,000 and 100,000 segments of 100 bytes, each behind the one before. `held`: it takes 10,000
-segments of 90 bytes over 100 and 1,000 fragments that are held.
+segments of 90 bytes over 100 and 1,000 fragments that are held. `events`: a worker serves 100,000 chunks of 100 bytes and 2,000
+of 65,536, beside `copies` of as many texts as long as their lines.
 
 The time is the best of the runs. Ends with 1 where a run fails, not all records, bytes, numbers and moments came in
 their order, a plain budget or the word in one thread refused an ask, a direction took other bytes than those that no earlier segment
-brought, or a hash or core is not that of toeplitz.py,
+brought, a worker wrote more or less than the lines, or a hash or core is not that of toeplitz.py,
 which is compared on shorter runs.
 """
 
@@ -49,6 +50,7 @@ FRAGMENT_LENGTH = 90
 FRAGMENT_SPACE = 100
 SCATTER = 7_919
 BEHIND_FRAGMENT = 20
+CHUNKS = ((100_000, 100), (2_000, 65_536))
 
 
 def best_run(program, words, want=None):
@@ -156,8 +158,25 @@ def bench_directions(program):
         print_row((OVER_HELD, fragments, f"{nanos / 1e9:.4f}", f"{nanos / OVER_HELD:.0f}"))
 
 
+def line_length(start, length):
+    return len(f"data 1 > {start} 0 0 0 \n") + 2 * length
+
+
+def bench_events(program):
+    print_row(("events", "bytes each", "seconds", "ns/event", "ns/B of text", "x copy"))
+    print_row(["--:"] * 6)
+    for count, length in CHUNKS:
+        text = sum(line_length(k * length, length) for k in range(count))
+        nanos = measured(program, ("events", count, length), f"written {text}")
+        line = text // count
+        copy = measured(program, ("copies", count, line), f"copied {count * line}")
+        print_row((
+            count, length, f"{nanos / 1e9:.4f}", f"{nanos / count:.0f}", f"{nanos / text:.2f}", f"{nanos / copy:.1f}",
+        ))
+
+
 BENCHES = {"frames": bench_frames, "hash": bench_hash, "rings": bench_rings, "budgets": bench_budgets, "dues": bench_dues,
-           "directions": bench_directions}
+           "directions": bench_directions, "events": bench_events}
 
 
 def main():

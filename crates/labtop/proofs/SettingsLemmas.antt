@@ -1,5 +1,5 @@
 -- What the front of a text of settings says of the whole text.
-use Rattle.std.proofs.Common.{◌≡◌, ℕ, ◌+◌, List, length, take, ap, sym, ◌∙◌, subst, inl, inr, arith, length-take}
+use Rattle.std.proofs.Common.{◌≡◌, ◌≤◌, ◌⊎◌, ℕ, ◌+◌, List, length, take, ap, sym, ◌∙◌, subst, inl, inr, arith, length-take}
 use Rattle.std.specs.Prelude.{Option, Some, None, IfSome, IsSome, IsSomeAnd, Result, Ok, Err, IfOk, IfErr, IsErrOf}
 use Rattle.std.proofs.lemmas.Bool.{cases_lt}
 use Rattle.std.proofs.lemmas.List.{take_all}
@@ -16,7 +16,7 @@ use Rattle.scapconf.specs.Parser.{IsMemoryOrFault}
 use Rattle.scapconf.specs.Says.{Reads}
 use Rattle.scapconf.proofs.LawLemmas.{one_meaning, read_or_refused}
 use Rattle.scapconf.specs.declared.limits.TheConstants.{LONGEST_TEXT}
-use Rattle.labtop.specs.Answers.{RefusesSettings, RefusesText}
+use Rattle.labtop.specs.Answers.{IsOfDrill, RefusesSettings, RefusesText, TakesFew}
 use Rattle.labtop.specs.Settings.{GoesBy, HasFault, MayGoBy}
 use Rattle.labtop.proofs.ReadLemmas.{none_there}
 
@@ -79,6 +79,63 @@ refused_read files name front (Err status) there e h = refused_by_read files nam
 
 pub never_read : (X : Type 0) (front : List ℕ) (r : Result Settings Status) → IfErr r (RefusesText front) → IsErrOf r ReadFault → X
 never_read X front r h e = absurd (let P : Result Settings Status → Type 0 = λ x. IfErr x (RefusesText front) in subst P e h)
+
+-- What is taken of the file
+
+few_of : (s : Status) (name : List ℕ) (taken : List ℕ → ℕ) → taken name ≤ LONGEST_TEXT + 1 → TakesFew s (Some name) taken
+few_of Done name taken h = tt
+few_of Memory name taken h = tt
+few_of Usage name taken h = tt
+few_of (Faulty n kind) name taken h = h
+few_of ReadFault name taken h = tt
+few_of WriteFault name taken h = tt
+few_of (NotPcap kind) name taken h = tt
+few_of (BadRecord at len) name taken h = tt
+few_of (CutShort bytes) name taken h = tt
+few_of TooLong name taken h = tt
+few_of Unbuilt name taken h = tt
+
+some_of : (files : Option (List File)) (P Q : Type 0) → (P → Q) → IfSome files (λ _. P) → IfSome files (λ _. Q)
+some_of None P Q f p = tt
+some_of (Some fs) P Q f p = f p
+
+some_all : (files : Option (List File)) (P : Type 0) → P → IfSome files (λ _. P)
+some_all None P p = tt
+some_all (Some fs) P p = p
+
+-- where it was read
+pub few_read : (files : Option (List File)) (name : List ℕ) (taken : List ℕ → ℕ) (r : Result Settings Status) → IfSome files (λ _. taken name ≤ LONGEST_TEXT + 1)
+    → IfErr r (λ e. IfSome files (λ _. TakesFew e (Some name) taken))
+few_read files name taken (Ok s) h = tt
+few_read files name taken (Err e) h = some_of files (taken name ≤ LONGEST_TEXT + 1) (TakesFew e (Some name) taken) (few_of e name taken) h
+
+-- and where it wasn't
+few_at : (files : Option (List File)) (name : Option (List ℕ)) (taken : List ℕ → ℕ) (e : Status) → (e ≡ Memory) ⊎ (e ≡ ReadFault) → IfSome files (λ _. TakesFew e name taken)
+few_at files name taken e (inl m) = some_all files (TakesFew e name taken) (subst (λ (s : Status). TakesFew s name taken) (sym m) tt)
+few_at files name taken e (inr r) = some_all files (TakesFew e name taken) (subst (λ (s : Status). TakesFew s name taken) (sym r) tt)
+
+pub few_unread : (files : Option (List File)) (name : Option (List ℕ)) (taken : List ℕ → ℕ) (r : Result Settings Status) → IfErr r (λ e. (e ≡ Memory) ⊎ (e ≡ ReadFault))
+    → IfErr r (λ e. IfSome files (λ _. TakesFew e name taken))
+few_unread files name taken (Ok s) h = tt
+few_unread files name taken (Err e) h = few_at files name taken e h
+
+-- a drill behind its settings
+pub few_behind : (files : Option (List File)) (s : Status) (name : Option (List ℕ)) (taken : List ℕ → ℕ) → IsOfDrill s → IfSome files (λ _. TakesFew s name taken)
+few_behind files Done name taken k = some_all files (Unit {0}) tt
+few_behind files Memory name taken k = some_all files (Unit {0}) tt
+few_behind files Usage name taken k = absurd k
+few_behind files (Faulty n kind) name taken k = absurd k
+few_behind files ReadFault name taken k = some_all files (Unit {0}) tt
+few_behind files WriteFault name taken k = some_all files (Unit {0}) tt
+few_behind files (NotPcap kind) name taken k = some_all files (Unit {0}) tt
+few_behind files (BadRecord at len) name taken k = absurd k
+few_behind files (CutShort bytes) name taken k = absurd k
+few_behind files TooLong name taken k = absurd k
+few_behind files Unbuilt name taken k = some_all files (Unit {0}) tt
+
+-- and one that goes by none
+pub few_without : (files : Option (List File)) (status s : Status) (name : Option (List ℕ)) (taken : List ℕ → ℕ) → status ≡ s → IfSome files (λ _. TakesFew s name taken) → IfSome files (λ _. TakesFew status name taken)
+few_without files status s name taken e h = subst (λ (t : Status). IfSome files (λ _. TakesFew t name taken)) (sym e) h
 
 -- a text's refusal as a status
 pub refused_as : (text : List ℕ) (error : SettingsError) (status : Status) → status ≡ status_for error → IsMemoryOrFault (IsFault text) error → RefusesText text status

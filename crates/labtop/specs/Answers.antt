@@ -1,10 +1,11 @@
-use Rattle.std.specs.Prelude.{ℕ, ◌≡◌, ◌⊎◌, List, [], ◌∷◌, take, Option, Some, None, IfSome}
+use Rattle.std.specs.Prelude.{ℕ, ◌+◌, ◌≡◌, ◌≤◌, ◌⊎◌, List, [], ◌∷◌, take, Option, Some, None, IfSome}
 use Rattle.histbook.specs.Moves.{IsBudgetHistory}
 use Rattle.scap_world.specs.Files.{File, file_of, told_file, told_put}
 use Rattle.scapconf.specs.declared.settings.Settings.{Settings}
 use Rattle.scapconf.specs.Faults.{IsFault}
+use Rattle.scapconf.specs.declared.limits.TheConstants.{LONGEST_TEXT}
 use Rattle.scapconf.specs.declared.status.Status.{Status}
-use Rattle.scapconf.specs.declared.status.Status.TheVariants.{Done, Memory, Usage, Settings as Faulty, ReadFault, WriteFault, NotPcap, BadRecord, CutShort, TooLong, Unbuilt}
+use Rattle.scapconf.specs.declared.status.Status.TheVariants.{Memory, Settings as Faulty, ReadFault, NotPcap}
 use Rattle.histbook.specs.declared.journal.Journal.{Journal}
 use Rattle.streamdefs.specs.Terms.{Terms}
 use Rattle.labtop.specs.Headline.{IsRun, delivery_for, report_for}
@@ -91,6 +92,11 @@ abbrev pub RefusesSettings : Option (List File) → Option (List ℕ) → Status
 RefusesSettings files None s = MayBe (kind.memory ∷ []) s
 RefusesSettings files (Some name) (Faulty line fault) = IfSome files (λ fs. HasFault fs (Some name) line fault)
 RefusesSettings files (Some name) s = MayBe (kind.memory ∷ kind.read_fault ∷ []) s
+
+-- where the text of a file of settings has a fault, one byte more than the longest text is taken of the file
+abbrev pub TakesFew : Status → Option (List ℕ) → (taken : List ℕ → ℕ) → Type 0
+TakesFew (Faulty line fault) (Some name) taken = taken name ≤ LONGEST_TEXT + 1
+TakesFew _ _ _ = Unit {0}
 
 -- the answer of a drill: the fault of its settings, or what a verdict by its settings allows
 abbrev pub IsAnswer : List File → Option (List ℕ) → List ℕ → Status → Type 0

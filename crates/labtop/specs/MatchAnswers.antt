@@ -5,7 +5,7 @@ use Rattle.capfilter.specs.declared.filter_error.FilterFault.{FilterFault}
 use Rattle.scap_world.specs.Files.{File, file_of}
 use Rattle.scapconf.specs.declared.settings_error.SettingsKind.TheVariants as kinds
 use Rattle.scapconf.specs.declared.status.Status.{Status}
-use Rattle.scapconf.specs.declared.status.Status.TheVariants.{Done, Memory, Usage, Settings as Faulty, ReadFault, WriteFault, NotPcap, BadRecord, CutShort, TooLong, Unbuilt}
+use Rattle.scapconf.specs.declared.status.Status.TheVariants.{Memory, Settings as Faulty, ReadFault}
 use Rattle.labtop.specs.Kinds as kind
 use Rattle.labtop.specs.Kinds.{MayBe}
 use Rattle.labtop.specs.Matching.{matched_of, AllowsMatch, CompletesMatch, LeavesMatch, WritesMatch}

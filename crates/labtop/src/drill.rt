@@ -7,7 +7,7 @@ ghost use Rattle.labtop.specs.declared.limits.TheConstants.{MOST_BUILT};
 ghost use Rattle.labtop.specs.Names.{delivery_name, report_name};
 ghost use Rattle.labtop.specs.Causes.{RoseAtOutputs, RoseAtSettings};
 ghost use Rattle.labtop.specs.Drill.{asked_of};
-ghost use Rattle.labtop.specs.Answers.{Allows, By, Completes, InTurn, HasHistory, IsAnswer, IsBefore, IsDone, IsDoneBy, IsOfDrill, IsOfDrillBy, IsPart, LeavesBy, LeavesParts};
+ghost use Rattle.labtop.specs.Answers.{Allows, By, Completes, InTurn, HasHistory, IsAnswer, IsBefore, IsDone, IsDoneBy, IsOfDrill, IsOfDrillBy, IsPart, LeavesBy, LeavesParts, TakesFew};
 ghost use Rattle.labtop.specs.Headline.{IsEmpty};
 ghost use Rattle.labtop.specs.Heads.{IsBehindHead};
 ghost use Rattle.labtop.specs.Settings.{GoesBy, is_built, terms_of};
@@ -164,6 +164,7 @@ pub(crate) fn drill_by<S: Shelf>(
     ensures kinds { IsOfDrillBy (told_word settings.entry) result.status }
     ensures history { result.status ≡ Status.Done → HasHistory (told_word settings.entry) result.journal }
     ensures few { result.status ≡ Status.Done → IfSome (S.files shelf.old) (λ _. S.taken shelf.new capture.now ≤ MOST_BUILT + 1) }
+    ensures settings_few { IfSome (S.files shelf.old) (λ _. TakesFew result.status (told_word settings.entry) (S.taken shelf.new)) }
     ensures done { result.status ≡ Status.Done → IfSome (S.files shelf.old)
         (λ files. IsDoneBy files (told_word settings.entry) capture.now out.now result.journal (S.files shelf.old) (S.files shelf.new)) }
     ensures journal { result.status ≢ Status.Done → IsEmpty result.journal }

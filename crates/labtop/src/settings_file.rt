@@ -2,7 +2,7 @@
 ghost use Rattle.std.specs.Prelude.{◌≡◌, ◌≤◌, ℕ, List, Some, IfOk, IfErr, IfSome, IsErrOf};
 ghost use Rattle.scap_world.specs.Causes.{Rose};
 ghost use Rattle.labtop.specs.Causes.{RoseAtSettings};
-ghost use Rattle.labtop.specs.Answers.{RefusesSettings, RefusesText};
+ghost use Rattle.labtop.specs.Answers.{RefusesSettings, RefusesText, TakesFew};
 ghost use Rattle.scapconf.specs.Says.{Reads};
 ghost use Rattle.labtop.specs.Settings.{GoesBy, MayGoBy};
 ghost use Rattle.labtop.specs.Words.{told_word};
@@ -21,10 +21,12 @@ fn settings_in(alloc: Global, text: &[u8]) -> Result<Settings, Status>
 }
 
 /// The settings that a file says.
+#[tactic(auto, using(crate::proofs::SettingsLemmas::few_unread))]
 fn read_settings<S: Shelf>(alloc: Global, shelf: &mut S, name: &str) -> Result<Settings, Status>
     ensures goes { IfOk result (λ s. IfSome (S.files shelf.old) (λ files. GoesBy files (Some name.now) s)) }
     ensures may { IfOk result (λ s. MayGoBy (Some name.now) s) }
     ensures refused { IfErr result (RefusesSettings (S.files shelf.old) (Some name.now)) }
+    ensures few { IfErr result (λ e. IfSome (S.files shelf.old) (λ _. TakesFew e (Some name.now) (S.taken shelf.new))) }
     ensures files { S.files shelf.new ≡ S.files shelf.old }
     ensures cause { IsErrOf result Status.ReadFault → Rose (S.read_faults shelf.old name.now) (S.read_faults shelf.new name.now) }
     ensures read_later { (other : List ℕ) → S.read_faults shelf.old other ≤ S.read_faults shelf.new other }
@@ -45,6 +47,7 @@ pub(crate) fn settings_by<S: Shelf>(
     ensures goes { IfOk result (λ s. IfSome (S.files shelf.old) (λ files. GoesBy files (told_word name.entry) s)) }
     ensures may { IfOk result (λ s. MayGoBy (told_word name.entry) s) }
     ensures refused { IfErr result (RefusesSettings (S.files shelf.old) (told_word name.entry)) }
+    ensures few { IfErr result (λ e. IfSome (S.files shelf.old) (λ _. TakesFew e (told_word name.entry) (S.taken shelf.new))) }
     ensures files { S.files shelf.new ≡ S.files shelf.old }
     ensures cause { IsErrOf result Status.ReadFault → RoseAtSettings (told_word name.entry) (S.read_faults shelf.old) (S.read_faults shelf.new) }
     ensures read_later { (other : List ℕ) → S.read_faults shelf.old other ≤ S.read_faults shelf.new other }

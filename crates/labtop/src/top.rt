@@ -9,7 +9,7 @@ ghost use Rattle.labtop.specs.declared.limits.TheConstants.{MOST_BUILT};
 ghost use Rattle.labtop.specs.Names.{match_name};
 ghost use Rattle.labtop.specs.Causes.{RoseAtOutputs, RoseAtSettings};
 ghost use Rattle.labtop.specs.Drill.{asked_of};
-ghost use Rattle.labtop.specs.Answers.{By, Completes, HasHistory, IsAnswer, IsBefore, IsDoneBy, IsOfDrillBy, IsPart, LeavesBy};
+ghost use Rattle.labtop.specs.Answers.{By, Completes, HasHistory, IsAnswer, IsBefore, IsDoneBy, IsOfDrillBy, IsPart, LeavesBy, TakesFew};
 ghost use Rattle.labtop.specs.Headline.{IsEmpty};
 ghost use Rattle.labtop.specs.Heads.{IsBehindHead};
 ghost use Rattle.labtop.specs.MakeAnswers.{CompletesMake, IsOfMake};
@@ -64,6 +64,10 @@ pub fn lab_top<S: Shelf>(alloc: Global, words: &[&str], shelf: &mut S) -> LabDon
     // Of the capture one byte more than the most is taken, where it is done.
     ensures few { OfDrill words.now (λ settings capture out. result.status ≡ Status.Done
         → IfSome (S.files shelf.old) (λ _. S.taken shelf.new capture ≤ MOST_BUILT + 1)) }
+
+    // Of its settings one byte more than the longest text, where that has a fault.
+    ensures settings_few { OfDrill words.now (λ settings capture out.
+        IfSome (S.files shelf.old) (λ _. TakesFew result.status settings (S.taken shelf.new))) }
 
     // A fault was counted where it is answered: of the settings first, and of the capture where the settings are built and its
     // head isn't refused.

@@ -11,7 +11,7 @@ use std::alloc::Global;
 
 /// What a grant leaves, by a budget that grants all.
 #[derive(Drop)]
-struct Granted(u32);
+pub struct Granted(pub u32);
 
 impl Charge for Granted {
     ghost use Rattle.prio_budget.specs.Share.{no_share};

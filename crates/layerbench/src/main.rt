@@ -1,13 +1,14 @@
 //! The layers below the commands at work, for the scripts of bench/: `frames RECORDS LENGTH PIECE`, `hash BYTES`, `cores KEYS`,
-//! `ring ITEMS PLACES`, `word THREADS ASKS`, `locked THREADS ASKS`, `dues IDS`, `order SEGMENTS LENGTH` or
-//! `held FRAGMENTS SEGMENTS LENGTH`; `each` does a little of each.
+//! `ring ITEMS PLACES`, `word THREADS ASKS`, `locked THREADS ASKS`, `dues IDS`, `order SEGMENTS LENGTH`,
+//! `held FRAGMENTS SEGMENTS LENGTH`, `events EVENTS LENGTH` or `copies COPIES LENGTH`; `each` does a little of each.
 //! It prints what came of it, and where the last word is `timed` the nanoseconds that the work took.
-//! Stands on pcapfile, streamkey, evring, prio_budget, deadlines and flowdir.
+//! Stands on pcapfile, streamkey, evring, prio_budget, deadlines, flowdir and workrun.
 #![tactic(auto)]
 
 mod budgets;
 mod dirs;
 mod dues;
+mod events;
 mod fault;
 mod frames;
 mod hashes;
@@ -153,6 +154,35 @@ fn bench_held<R: Print + Clock + AllocGlobal>(
     Ok(nanos)
 }
 
+/// Serves so many chunks by a worker.
+fn bench_events<R: Print + Clock + AllocGlobal>(
+    rt: &R,
+    count: u32,
+    len: usize,
+) -> Result<u128, Fault> {
+    let payload = hashes::bytes(rt.alloc(), len)?;
+    let chunks = events::chunks(rt.alloc(), count, &payload)?;
+    let start = Instant::now(rt)?;
+    let written = events::served(rt.alloc(), chunks)?;
+    let nanos = start.elapsed(rt)?.as_nanos();
+    println!(rt; "written {written}")?;
+    Ok(nanos)
+}
+
+/// Copies so many texts.
+fn bench_copies<R: Print + Clock + AllocGlobal>(
+    rt: &R,
+    count: u32,
+    len: usize,
+) -> Result<u128, Fault> {
+    let text = hashes::bytes(rt.alloc(), len)?;
+    let start = Instant::now(rt)?;
+    let copied = events::copied(rt.alloc(), count, &text)?;
+    let nanos = start.elapsed(rt)?.as_nanos();
+    println!(rt; "copied {copied}")?;
+    Ok(nanos)
+}
+
 /// Does a little of each. What it prints is always the same.
 fn bench_each<R: Print + Clock + AllocGlobal + Threads + Wait + Sync>(
     rt: &R,
@@ -165,7 +195,9 @@ fn bench_each<R: Print + Clock + AllocGlobal + Threads + Wait + Sync>(
     nanos = nanos.saturating_add(bench_locked(rt, 4, 10_000)?);
     nanos = nanos.saturating_add(bench_dues(rt, 1_000)?);
     nanos = nanos.saturating_add(bench_order(rt, 1_000, 100)?);
-    Ok(nanos.saturating_add(bench_held(rt, 100, 1_000, 90)?))
+    nanos = nanos.saturating_add(bench_held(rt, 100, 1_000, 90)?);
+    nanos = nanos.saturating_add(bench_events(rt, 1_000, 100)?);
+    Ok(nanos.saturating_add(bench_copies(rt, 1_000, 200)?))
 }
 
 /// Does what the words ask for, of what works in one thread.
@@ -184,6 +216,12 @@ fn bench_alone<R: Print + Clock + AllocGlobal>(rt: &R, words: &[String]) -> Resu
     }
     if has_word(words, 0, "order") {
         return bench_order(rt, short_number(words, 1)?, number(words, 2)?);
+    }
+    if has_word(words, 0, "events") {
+        return bench_events(rt, short_number(words, 1)?, number(words, 2)?);
+    }
+    if has_word(words, 0, "copies") {
+        return bench_copies(rt, short_number(words, 1)?, number(words, 2)?);
     }
     if has_word(words, 0, "held") {
         return bench_held(

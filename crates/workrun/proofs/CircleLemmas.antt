@@ -1,7 +1,7 @@
 -- Numbers by steps.
-use Rattle.std.proofs.Common.{◌≡◌, ℕ, zero, suc, ◌+◌, ◌-◌, ◌*◌, ◌/◌, ◌%◌, ◌<◌, ◌≤◌, List, [], ◌∷◌, map, length, refl, ap, ◌∙◌, arith}
+use Rattle.std.proofs.Common.{◌≡◌, ℕ, zero, suc, ◌+◌, ◌-◌, ◌*◌, ◌/◌, ◌%◌, ◌<◌, ◌≤◌, map, length, refl, ap, ◌∙◌, arith}
 use Rattle.std.specs.Prelude.{Some, slice_get, option_map}
-use Rattle.std.proofs.Math.Nat.{mul-le-mul_left, mul-suc, mul_comm, mul-div-le, le-mul_of_pos_right, div-add-mod, add-mul-mod_self_left, mod-eq_of_lt}
+use Rattle.std.proofs.Math.Nat.{mul-le-mul_left, mul-suc, mul_comm, mul-div-le, le-mul_of_pos_right, add-mul-mod_self_left, mod-eq_of_lt}
 use Rattle.std.proofs.lemmas.Nat.{le-div}
 use Rattle.std.proofs.lemmas.Option.{slice_get-map}
 use Rattle.workrun.specs.Circle.{numbers, count_of}

@@ -1,5 +1,5 @@
 -- What stands where no event is in hand.
-use Rattle.std.proofs.Common.{◌≡◌, ℕ, List, [], refl}
+use Rattle.std.proofs.Common.{◌≡◌, ℕ, [], refl}
 use Rattle.std.specs.Prelude.{None}
 use Rattle.prio_budget.specs.History.{total}
 use Rattle.workrun.specs.declared.work.Work.{Work}

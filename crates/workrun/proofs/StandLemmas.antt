@@ -1,6 +1,6 @@
 -- What a worker stands for behind its calls.
-use Rattle.std.proofs.Common.{◌≡◌, ℕ, suc, ◌+◌, List, [], ◌∷◌, ◌++◌, map, take, drop, length, refl, ap, ◌∙◌, sym, subst, arith, append-nil, length-append}
-use Rattle.std.specs.Prelude.{Bool, true, Option, Some, None, Result, Ok, Err, IfOk, OnOk, is_some, cond, option_map}
+use Rattle.std.proofs.Common.{◌≡◌, ℕ, suc, List, [], ◌∷◌, ◌++◌, map, take, drop, length, refl, ap, ◌∙◌, sym, subst, arith, append-nil, length-append}
+use Rattle.std.specs.Prelude.{true, Option, Some, None, is_some, cond, option_map}
 use Rattle.std.proofs.lemmas.List.{map-append}
 use Rattle.prio_budget.specs.declared.free.Free.{Free}
 use Rattle.evring.specs.declared.advice.Advice.{Advice}
@@ -11,8 +11,7 @@ use Rattle.streamdefs.specs.Lawful.{Handler}
 use Rattle.handler.specs.Seen.{conv_of, seen_in}
 use Rattle.workrun.specs.declared.release.Release.{Release}
 use Rattle.workrun.specs.declared.work.Work.{Work}
-use Rattle.workrun.specs.declared.work.Work.TheVariants.{Nothing, Loaded, Releases, Waits}
-use Rattle.workrun.specs.declared.work_fault.WorkFault.{WorkFault}
+use Rattle.workrun.specs.declared.work.Work.TheVariants.{Loaded, Releases, Waits}
 use Rattle.workrun.specs.declared.work_turn.WorkTurn.{WorkTurn}
 use Rattle.workrun.specs.declared.work_turn.WorkTurn.TheVariants as turns
 use Rattle.prio_budget.specs.declared.charge.Charge.{Ghosts as ChargeGhosts}
@@ -23,7 +22,7 @@ use Rattle.workrun.specs.declared.worker.Worker.{Worker}
 use Rattle.workrun.specs.AtWork.{AtWork, Hand, IsWork, behind, freed, hand_behind, line_due, served_behind, taken, unless_told, with_free}
 use Rattle.workrun.specs.Boundary.{Stands, told_of}
 use Rattle.workrun.specs.Outgoing.{charges_left}
-use Rattle.workrun.specs.Steps.{HasInHand, IsReleasing, IsWaiting, Served, Worked}
+use Rattle.workrun.specs.Steps.{HasInHand, IsReleasing, IsWaiting, Worked}
 use Rattle.workrun.proofs.StepLemmas.{one_more}
 
 -- What is in hand
@@ -103,13 +102,6 @@ module _ {H K C : Type 0} {gh : HandlerGhosts H} {gk : SinkGhosts K} {gc : Charg
             (subst (λ (o : Option (Hand C)). HasInHand amount stamp (stated w.scribe.handler) (option_map (with_free free) o) (Releases r')) (sym there.1) hand));
         served = ap (λ (sc : Scribe H K). sc.served) es ∙ s.served ∙ ap (λ (l : List ℕ). x.served ++ l) (ap told_of there.1 ∙ sym (ap (λ (o : Option (Hand C)). told_of (option_map (with_free free) o)) there.1));
       }
-
-  -- behind what a call for it answered
-  pub stands_go : (x : AtWork C) (w w' : Worker H K C gh gk gc) (r : Release C) (result : Result (WorkTurn C) WorkFault) → Stands amount stamp stated x w → w.work ≡ Releases r → OnOk result (w'.calm ≡ w.calm) → w'.scribe ≡ w.scribe
-      → ((h : Hand C) → IsReleasing amount (stated w.scribe.handler) h r [] → IfOk result (Worked amount stamp (stated w.scribe.handler) h w'.work))
-      → IfOk result (λ turn. IsWork amount (stated w.scribe.handler) x.hand turn × Stands amount stamp stated (behind (stated w.scribe.handler) x turn) w')
-  stands_go x w w' r (Err e) s ew ec es t = tt
-  stands_go x w w' r (Ok turn) s ew ec es t = stands_on x w w' r turn s ew (ec ∙ s.calm) es t
 
   -- the line is due until it was told
   pub line_loaded : (x : AtWork C) (w : Worker H K C gh gk gc) (core : ℕ) (e : Event C) → Stands amount stamp stated x w → w.work ≡ Loaded core e → line_due x.hand ≡ event_line (conv_of e) (seen_in e)

@@ -1,13 +1,9 @@
 -- What a worker's step makes of the event in hand.
-use Rattle.std.proofs.Common.{◌≡◌, ℕ, zero, suc, ◌+◌, List, [], ◌∷◌, ◌++◌, map, take, drop, length, refl, ap, ◌∙◌, sym, subst, arith, append-nil, length-append, rules}
+use Rattle.std.proofs.Common.{◌≡◌, ℕ, zero, suc, List, [], ◌∷◌, ◌++◌, map, take, drop, length, refl, ap, ◌∙◌, sym}
 use Rattle.std.specs.Prelude.{Bool, true, false, cond, Option, Some, None, slice_get, unwrap_or}
-use Rattle.std.proofs.lemmas.List.{map-append}
 use Rattle.prio_budget.specs.declared.free.Free.{Free}
-use Rattle.prio_budget.specs.History.{total}
-use Rattle.prio_budget.proofs.Totals.{total_append}
 use Rattle.chunkpart.specs.ChunkParts.{ChunkParts}
 use Rattle.evring.specs.declared.advice.Advice.{Advice}
-use Rattle.evring.specs.declared.answer.Answer.{Answer}
 use Rattle.evring.specs.declared.event.Event.{Event}
 use Rattle.evring.specs.declared.event.Event.TheVariants.{New, Chunk, Ended}
 use Rattle.evring.specs.declared.way.Way.{Way}
@@ -16,12 +12,12 @@ use Rattle.streamkey.specs.declared.key.Key.{Key}
 use Rattle.streamdefs.specs.Lawful.{Handler}
 use Rattle.workrun.specs.declared.release.Release.{Release}
 use Rattle.workrun.specs.declared.work.Work.{Work}
-use Rattle.workrun.specs.declared.work.Work.TheVariants.{Nothing, Loaded, Releases, Waits}
+use Rattle.workrun.specs.declared.work.Work.TheVariants.{Nothing, Waits}
 use Rattle.workrun.specs.declared.work_turn.WorkTurn.{WorkTurn}
 use Rattle.workrun.specs.declared.work_turn.WorkTurn.TheVariants as turns
-use Rattle.workrun.specs.AtWork.{Hand, IsAnswer, IsRight, IsWork, advice_of, hand_behind, kept_for, next_owed, owed_for, served_behind, stated_of, taken, with_advice, with_free}
+use Rattle.workrun.specs.AtWork.{Hand, advice_of, kept_for, owed_for, stated_of, taken, with_advice}
 use Rattle.workrun.specs.Outgoing.{charges_left}
-use Rattle.workrun.specs.Steps.{HasInHand, IsReleasing, IsWaiting, Worked}
+use Rattle.workrun.specs.Steps.{IsReleasing, Worked}
 
 -- Lists
 
@@ -182,7 +178,3 @@ tells_on amount stamp handler h work (turns.Answer core a) w = record {
   hand = w.hand;
 }
 tells_on amount stamp handler h work turns.Ready w = absurd w.is_work
-
--- sums of charges that go out
-pub weighed : {C : Type 0} (by : C → ℕ) (before out after : List C) → before ≡ out ++ after → total by after + total by out ≡ total by before
-weighed by before out after e = omega (arith, ap (total by) e, total_append by out after)

@@ -1,11 +1,11 @@
 -- Turns and faults, by what the calls below answered.
-use Rattle.std.proofs.Common.{◌≡◌, ℕ, suc, ◌+◌, ◌*◌, ◌<◌, ◌≤◌, List, [], ◌∷◌, ◌++◌, take, length, refl, ap, ◌∙◌, sym, subst, arith, append-nil}
-use Rattle.std.specs.Prelude.{Bool, true, false, not, Option, Some, None, Result, Ok, Err, IfOk, OnOk, OnErr}
+use Rattle.std.proofs.Common.{◌≡◌, ℕ, ◌+◌, ◌*◌, ◌<◌, List, [], ◌∷◌, ◌++◌, length, refl, ap, ◌∙◌, sym, subst, arith, append-nil}
+use Rattle.std.specs.Prelude.{Bool, true, false, not, Option, Some, None, Result, Ok, Err, IfOk, OnErr}
 use Rattle.std.proofs.lemmas.Grind.{flat_map-append}
 use Rattle.std.proofs.lemmas.List.Concat.{flat_map-cons}
 use Rattle.prio_budget.specs.declared.free.Free.{Free}
 use Rattle.prio_budget.specs.History.{total}
-use Rattle.scap_world.specs.Contents.{extended, GainsFront}
+use Rattle.scap_world.specs.Contents.{extended, GainsPart}
 use Rattle.chunkpart.specs.ChunkParts.{ChunkParts}
 use Rattle.evring.specs.Advice.{no_advice}
 use Rattle.evring.specs.declared.advice.Advice.{Advice}
@@ -21,12 +21,10 @@ use Rattle.workrun.specs.declared.work_fault.WorkFault.TheVariants as faults
 use Rattle.workrun.specs.declared.work_turn.WorkTurn.{WorkTurn}
 use Rattle.workrun.specs.declared.work_turn.WorkTurn.TheVariants as turns
 use Rattle.workrun.specs.AtWork.{Hand}
-use Rattle.workrun.specs.InWork.{things}
 use Rattle.workrun.specs.Outgoing.{charges_left}
-use Rattle.workrun.specs.Steps.{IsBack, IsOut, IsReleasing, Stayed, Turned, Worked}
+use Rattle.workrun.specs.Steps.{IsOut, IsReleasing, Turned, Worked}
 use Rattle.workrun.specs.Telling.{HasCause}
 use Rattle.workrun.proofs.StepLemmas.{gives_none, gives_one}
-use Rattle.workrun.proofs.TellingLemmas.{none_gained}
 
 -- the charges of chunks with one more behind them
 pub charges_snoc : {C : Type 0} (kept : List (ChunkParts C)) (chunk : ChunkParts C) → charges_of_all (kept ++ chunk ∷ []) ≡ charges_of_all kept ++ charges_of chunk
@@ -66,13 +64,12 @@ done_turned {C} amount stamp core advice frees kept charges false work turn ew e
     (answer_turned amount stamp core frees charges false (record { advice = no_advice; frees = frees; kept = kept; drained = true }) refl refl (λ (e : false ≡ false). (refl, ek)) (ec ∙ sym (ap charges_of_all ek))) ew (ef refl)
 
 -- a charge goes out
-pub given_turned : {C : Type 0} (amount stamp : C → ℕ) (core : ℕ) (frees : List Free) (charges : List C) (calm : Bool) (r : Release C) (c : C) (work : Work C) (result : Result (WorkTurn C) WorkFault) → charges ≡ c ∷ charges_left r.left → r.core ≡ core → r.frees.items ≡ frees
-    → IfOk result (λ turn. turn ≡ turns.Free c) → OnOk result (IsOut (amount c) (stamp c) r work) → IfOk result (Turned amount stamp core frees charges calm work)
-given_turned amount stamp core frees charges calm r c work (Err e) el ec ef et o = tt
-given_turned amount stamp core frees charges calm r c Nothing (Ok turn) el ec ef et o = absurd o
-given_turned amount stamp core frees charges calm r c (Loaded core' event) (Ok turn) el ec ef et o = absurd o
-given_turned amount stamp core frees charges calm r c (Releases r') (Ok turn) el ec ef et o = absurd o
-given_turned {C} amount stamp core frees charges calm r c (Waits b g r') (Ok turn) el ec ef et o =
+pub given_turned : {C : Type 0} (amount stamp : C → ℕ) (core : ℕ) (frees : List Free) (charges : List C) (calm : Bool) (r : Release C) (c : C) (work : Work C) (turn : WorkTurn C) → charges ≡ c ∷ charges_left r.left → r.core ≡ core → r.frees.items ≡ frees
+    → turn ≡ turns.Free c → IsOut (amount c) (stamp c) r work → Turned amount stamp core frees charges calm work turn
+given_turned amount stamp core frees charges calm r c Nothing turn el ec ef et o = absurd o
+given_turned amount stamp core frees charges calm r c (Loaded core' event) turn el ec ef et o = absurd o
+given_turned amount stamp core frees charges calm r c (Releases r') turn el ec ef et o = absurd o
+given_turned {C} amount stamp core frees charges calm r c (Waits b g r') turn el ec ef et o =
     let left : charges ≡ c ∷ charges_left r'.left = el ∙ ap (λ (x : Outgoing C). c ∷ charges_left x) (sym o.5) in
     let bytes : b ≡ amount c = o.0 in
     let granted : g ≡ stamp c = o.1 in
@@ -86,23 +83,6 @@ given_turned {C} amount stamp core frees charges calm r c (Waits b g r') (Ok tur
       left_is = let less : 1 + 1 + 2 * length (charges_left r'.left) < 1 + 0 + 2 * length charges = omega (arith, ap (λ (l : List C). length l) left) in less;
       begun_is = refl;
     })
-
--- a charge comes back before the others
-pub back_stayed : {T C : Type 0} (core : ℕ) (frees : List Free) (charges : List C) (r : Release C) (c : C) (work : Work C) (result : Result T WorkFault) → charges ≡ c ∷ charges_left r.left → r.core ≡ core → r.frees.items ≡ frees
-    → OnErr result (IsBack c r work) → OnErr result (Stayed core frees charges work)
-back_stayed core frees charges r c work (Ok turn) el ec ef b = tt
-back_stayed core frees charges r c Nothing (Err e) el ec ef b = absurd b
-back_stayed core frees charges r c (Loaded core' event) (Err e) el ec ef b = absurd b
-back_stayed core frees charges r c (Waits bytes granted r') (Err e) el ec ef b = absurd b
-back_stayed {T} {C} core frees charges r c (Releases r') (Err e) el ec ef b =
-    let all : charges_left r'.left ≡ charges = b.2 ∙ sym el in
-    record {
-      core_is = ap Some (b.0 ∙ ec);
-      frees_are = b.1 ∙ ef;
-      pause = refl;
-      charges_are = all;
-      left_is = ap (λ (l : List C). things (length l) 0) all;
-    }
 
 -- the answer that keeps the chunks
 pub kept_turned : {C : Type 0} (amount stamp : C → ℕ) (core : ℕ) (advice : Advice) (frees : List Free) (before kept : List (ChunkParts C)) (chunk : ChunkParts C) (work : Work C) (turn : WorkTurn C) → work ≡ Nothing → frees ≡ [] → kept ≡ before ++ chunk ∷ []
@@ -124,33 +104,17 @@ done_worked {C} amount stamp handler h r kept work turn s el ew ek et =
     worked_moved amount stamp handler h work turn (turns.Answer r.core (record { advice = r.advice; frees = r.frees.items; kept = []; drained = false })) (gives_none amount stamp handler h r s el) ew
     (et ∙ ap (λ (k : List (ChunkParts C)). turns.Answer r.core (record { advice = r.advice; frees = r.frees.items; kept = k; drained = false })) ek)
 
-pub given_worked : {C : Type 0} (amount stamp : C → ℕ) (handler : Handler) (h : Hand C) (r r1 : Release C) (c : C) (work : Work C) (result : Result (WorkTurn C) WorkFault) → IsReleasing amount handler h r []
+pub given_worked : {C : Type 0} (amount stamp : C → ℕ) (handler : Handler) (h : Hand C) (r r1 : Release C) (c : C) (work : Work C) (turn : WorkTurn C) → IsReleasing amount handler h r []
     → charges_left r.left ≡ c ∷ charges_left r1.left → r1.core ≡ r.core → r1.advice ≡ r.advice → r1.frees.items ≡ r.frees.items
-    → IfOk result (λ turn. turn ≡ turns.Free c) → OnOk result (IsOut (amount c) (stamp c) r1 work) → IfOk result (Worked amount stamp handler h work)
-given_worked amount stamp handler h r r1 c work (Err e) s el ec ea ef et o = tt
-given_worked amount stamp handler h r r1 c Nothing (Ok turn) s el ec ea ef et o = absurd o
-given_worked amount stamp handler h r r1 c (Loaded core event) (Ok turn) s el ec ea ef et o = absurd o
-given_worked amount stamp handler h r r1 c (Releases r') (Ok turn) s el ec ea ef et o = absurd o
-given_worked {C} amount stamp handler h r r1 c (Waits b g r') (Ok turn) s el ec ea ef et o =
+    → turn ≡ turns.Free c → IsOut (amount c) (stamp c) r1 work → Worked amount stamp handler h work turn
+given_worked amount stamp handler h r r1 c Nothing turn s el ec ea ef et o = absurd o
+given_worked amount stamp handler h r r1 c (Loaded core event) turn s el ec ea ef et o = absurd o
+given_worked amount stamp handler h r r1 c (Releases r') turn s el ec ea ef et o = absurd o
+given_worked {C} amount stamp handler h r r1 c (Waits b g r') turn s el ec ea ef et o =
     subst (λ (t : WorkTurn C). Worked amount stamp handler h (Waits b g r') t) (sym et)
     (gives_one amount stamp handler h r r' c b g s (el ∙ ap (λ (x : Outgoing C). c ∷ charges_left x) (sym o.5)) (o.2 ∙ ec) (o.3 ∙ ea) (o.4 ∙ ef) (sym o.0) (sym o.1))
 
-pub if_ok_map : {T E : Type 0} (r : Result T E) (P Q : T → Type 0) → ((t : T) → P t → Q t) → IfOk r P → IfOk r Q
-if_ok_map (Ok t) P Q f p = f t p
-if_ok_map (Err e) P Q f p = tt
-
 -- Faults
-
-take_whole : {X : Type 0} (xs : List X) → take (length xs) xs ≡ xs
-take_whole [] = refl
-take_whole {X} (x ∷ xs) = ap (λ (ys : List X). x ∷ ys) (take_whole xs)
-
-pub gained_all : {T E : Type 0} (r : Result T E) (old new : Option (List ℕ)) (line : List ℕ) → new ≡ extended old line → OnErr r (GainsFront old new line)
-gained_all (Ok t) old new line e = tt
-gained_all (Err f) old new line e = (length line, e ∙ ap (λ (l : List ℕ). extended old l) (sym (take_whole line)))
-
-pub cause_on : {T U : Type 0} (a b c : ℕ) (r : Result T WorkFault) (q : Result U WorkFault) → HasCause a b r → HasCause b c q → HasCause a c q
-cause_on a b c r q x y = record { later = omega (arith, x.later, y.later); write = λ e. (let h = y.write e in omega (arith, x.later, h)) }
 
 cause_err : {T U : Type 0} (a b : ℕ) (f : WorkFault) → HasCause {T = T} a b (Err f) → HasCause {T = U} a b (Err f)
 cause_err a b faults.Memory x = record { later = x.later; write = λ e. absurd (cc) }
@@ -160,19 +124,12 @@ cause_err a b faults.Write x = record { later = x.later; write = λ e. x.write r
 pub cause_stays : {T U : Type 0} (a b b' : ℕ) (f : WorkFault) → HasCause {T = T} a b (Err f) → b' ≡ b → HasCause {T = U} a b' (Err f)
 cause_stays {T} {U} a b b' f x e = subst (λ (n : ℕ). HasCause {T = U} a n (Err f)) (sym e) (cause_err {T = T} {U = U} a b f x)
 
-pub same_gains : {T E : Type 0} (r : Result T E) (old new : Option (List ℕ)) (line : List ℕ) → new ≡ old → OnErr r (GainsFront old new line)
-same_gains r old new line e = subst (λ (o : Option (List ℕ)). OnErr r (GainsFront old o line)) (sym e) (none_gained r old line)
-
-pub ok_const : {T E : Type 0} (r : Result T E) (P : Type 0) → P → IfOk r (λ t. P)
-ok_const (Ok t) P p = p
-ok_const (Err e) P p = tt
-
 pub extended_none : (o : Option (List ℕ)) → o ≡ extended o []
 extended_none None = refl
 extended_none (Some held) = ap Some (sym (append-nil held))
 
 -- an event that was told and answered at once
-pub close_front : {T : Type 0} (told : Result Advice WorkFault) (result : Result T WorkFault) (answer : Advice → T) (old mid new : Option (List ℕ)) (line : List ℕ) → OnErr told (GainsFront old mid line) → new ≡ mid → IfOk told (λ a. result ≡ Ok (answer a)) → OnErr result (GainsFront old new line)
-close_front {T} (Ok a) result answer old mid new line f e ok = subst (λ (r : Result T WorkFault). OnErr r (GainsFront old new line)) (sym ok) tt
+pub close_front : {T : Type 0} (told : Result Advice WorkFault) (result : Result T WorkFault) (answer : Advice → T) (old mid new : Option (List ℕ)) (line : List ℕ) → OnErr told (GainsPart old mid line) → new ≡ mid → IfOk told (λ a. result ≡ Ok (answer a)) → OnErr result (GainsPart old new line)
+close_front {T} (Ok a) result answer old mid new line f e ok = subst (λ (r : Result T WorkFault). OnErr r (GainsPart old new line)) (sym ok) tt
 close_front {T} (Err x) (Ok t) answer old mid new line f e ok = tt
-close_front {T} (Err x) (Err y) answer old mid new line f e ok = subst (λ (o : Option (List ℕ)). GainsFront old o line) (sym e) f
+close_front {T} (Err x) (Err y) answer old mid new line f e ok = subst (λ (o : Option (List ℕ)). GainsPart old o line) (sym e) f

@@ -5,7 +5,7 @@ use Rattle.chunkpart.specs.ChunkParts.{ChunkParts}
 use Rattle.evring.specs.declared.advice.Advice.{Advice}
 use Rattle.evring.specs.declared.answer.Answer.{Answer}
 use Rattle.evring.specs.declared.event.Event.{Event}
-use Rattle.evring.specs.declared.event.Event.TheVariants.{New, Chunk, Ended}
+use Rattle.evring.specs.declared.event.Event.TheVariants.{Chunk}
 use Rattle.evring.specs.Charges.{charges_in, charges_back}
 use Rattle.streamdefs.specs.Handler.{event_line}
 use Rattle.streamdefs.specs.Lawful.{Handler}

@@ -8,7 +8,7 @@ use Rattle.scap_world.specs.declared.sink.Sink.{Ghosts as SinkGhosts}
 use Rattle.handler.specs.declared.handler.Handler.{Ghosts as HandlerGhosts}
 use Rattle.workrun.specs.declared.worker.Worker.{Worker}
 use Rattle.workrun.specs.AtWork.{AtWork, Hand}
-use Rattle.workrun.specs.Circle.{count_of, round_from}
+use Rattle.workrun.specs.Circle.{round_from}
 use Rattle.workrun.specs.InWork.{charges_of_work, core_in, frees_in, has_begun, left_in, pause_in}
 use Rattle.workrun.specs.Pause.{Pause}
 use Rattle.workrun.specs.Steps.{HasInHand}

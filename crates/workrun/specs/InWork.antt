@@ -4,6 +4,7 @@ use Rattle.std.specs.Vec.{vec_capacity}
 use Rattle.prio_budget.specs.declared.free.Free.{Free}
 use Rattle.evring.specs.Advice.{no_advice}
 use Rattle.evring.specs.Charges.{charges_in}
+use Rattle.workrun.specs.declared.release.Release.{Release}
 use Rattle.workrun.specs.declared.work.Work.{Work}
 use Rattle.workrun.specs.declared.work.Work.TheVariants.{Nothing, Loaded, Releases, Waits}
 use Rattle.workrun.specs.declared.work_turn.WorkTurn.{WorkTurn}
@@ -55,10 +56,22 @@ left_in (Loaded core event) = things (length (charges_in event)) 0
 left_in (Releases release) = things (length (charges_left release.left)) 0
 left_in (Waits bytes stamp release) = things (length (charges_left release.left)) 1
 
--- how many releases can be put down without memory, where one is awaited
-abbrev pub free_places : {C : Type 0} → Work C → ℕ
-free_places (Waits bytes stamp release) = vec_capacity release.frees - vec_len release.frees
-free_places _ = 1
+-- Places for releases
+
+-- how many releases can be put down without memory
+abbrev pub places_of : {C : Type 0} → Release C → ℕ
+places_of release = vec_capacity release.frees - vec_len release.frees
+
+abbrev pub places_in : {C : Type 0} → Work C → ℕ
+places_in (Releases release) = places_of release
+places_in (Waits bytes stamp release) = places_of release
+places_in _ = 0
+
+-- how many are wanted: one for each charge that is left, and one for the charge that is out
+abbrev pub places_wanted : {C : Type 0} → Work C → ℕ
+places_wanted (Releases release) = length (charges_left release.left)
+places_wanted (Waits bytes stamp release) = 1 + length (charges_left release.left)
+places_wanted _ = 0
 
 -- A turn fits the event in hand. An answer goes to its core, with the releases done for it, and is one of drain mode where the
 -- worker is in drain mode; then it wants nothing and brings nothing back. Nothing is to be done exactly where there is no event.

@@ -38,16 +38,12 @@ pub record Stayed {C : Type 0} (core : ℕ) (frees : List Free) (charges : List 
   pub pause : pause_in work ≡ Still
   pub charges_are : charges_of_work work ≡ charges
   pub left_is : left_in work ≡ things (length charges) 0
+  pub begun_is : has_begun work ≡ false
 
 -- a charge is out of an event's, with all else as it was
 abbrev pub IsOut : {C : Type 0} → (bytes granted : ℕ) → Release C → Work C → Type 0
 IsOut bytes granted before (Waits b g r) = (b ≡ bytes) × (g ≡ granted) × (r.core ≡ before.core) × (r.advice ≡ before.advice) × (r.frees.items ≡ before.frees.items) × (r.left ≡ before.left)
 IsOut bytes granted before _ = ⊥
-
--- a charge is back before the others
-abbrev pub IsBack : {C : Type 0} → C → Release C → Work C → Type 0
-IsBack charge before (Releases r) = (r.core ≡ before.core) × (r.frees.items ≡ before.frees.items) × (charges_left r.left ≡ charge ∷ charges_left before.left)
-IsBack charge before _ = ⊥
 
 -- Outside drain mode
 

@@ -1,5 +1,5 @@
 ghost use Rattle.std.specs.Prelude.{◌≡◌, ◌+◌, ◌<◌, ◌≤◌, ◌++◌, ◌∷◌, ◌⊎◌, ℕ, [], Some, None, IfOk, OnOk, OnErr, IsOk, true, false, length, slice_get};
-ghost use Rattle.scap_world.specs.Contents.{extended, GainsFront};
+ghost use Rattle.scap_world.specs.Contents.{extended, GainsPart};
 ghost use Rattle.evring.specs.Charges.{charges_in};
 ghost use Rattle.prio_budget.specs.History.{total};
 ghost use Rattle.workrun.specs.Circle.{IsOwn, count_of, place_of, round_from};
@@ -90,13 +90,13 @@ impl<H: Handler, K: Sink, C: Charge> Worker<H, K, C> {
     pub fn next(&mut self) -> Result<WorkTurn<C>, WorkFault>
         requires still { pause self.old ≡ Still }
 
-        // The turn is what is to be done for the event in hand, and the event's line is written once.
+        // The turn is what is to be done for the event in hand, and the event's line is written once. At a fault it is not all written.
         ensures work { (x : AtWork C) → Stands C.amount C.stamp H.advice x self.old
             → IfOk result (λ turn. IsWork C.amount (H.advice (handler_of self.old)) x.hand turn × Stands C.amount C.stamp H.advice (behind (H.advice (handler_of self.old)) x turn) self.new) }
         ensures line { (x : AtWork C) → Stands C.amount C.stamp H.advice x self.old
             → IfOk result (λ turn. K.held (sink_of self.new) ≡ extended (K.held (sink_of self.old)) (line_due x.hand)) }
         ensures front { (x : AtWork C) → Stands C.amount C.stamp H.advice x self.old
-            → OnErr result (GainsFront (K.held (sink_of self.old)) (K.held (sink_of self.new)) (line_due x.hand)) }
+            → OnErr result (GainsPart (K.held (sink_of self.old)) (K.held (sink_of self.new)) (line_due x.hand)) }
 
         // In every mode.
         ensures fits { IfOk result (FitsHand (core_in_hand self.old) (frees_in_hand self.old) (calm_of self.old)) }
@@ -111,6 +111,11 @@ impl<H: Handler, K: Sink, C: Charge> Worker<H, K, C> {
         ensures kept { OnErr result ((core_in_hand self.new ≡ core_in_hand self.old) × (frees_in_hand self.new ≡ frees_in_hand self.old) × (pause self.new ≡ Still) × (charges_in_hand self.new ≡ charges_in_hand self.old)) }
         ensures kept_left { OnErr result (work_left self.new ≡ work_left self.old) }
 
+        // All memory of an event, but what the sink takes, is taken before the handler is called: only the first turn can fail, and
+        // before a charge goes out.
+        ensures told { begun self.old ≡ true → IsOk result }
+        ensures untold { OnErr result (begun self.new ≡ false) }
+
         ensures calm { OnOk result (calm_of self.new ≡ calm_of self.old) }
         ensures fault { OnErr result (calm_of self.new ≡ false) }
         ensures drains { calm_of self.old ≡ false → IsOk result × (sink_of self.new ≡ sink_of self.old) }
@@ -121,9 +126,9 @@ impl<H: Handler, K: Sink, C: Charge> Worker<H, K, C> {
         match mem::replace(&mut self.work, Work::Nothing) {
             Work::Nothing => Ok(WorkTurn::Ready),
             Work::Loaded { core, event } => self.begin(core, event),
-            Work::Releases { release } => self.go_on(release),
+            Work::Releases { release } => Ok(self.go_on(release)),
             // Not reached: what is out is released before this call.
-            Work::Waits { release, .. } => self.go_on(release),
+            Work::Waits { release, .. } => Ok(self.go_on(release)),
         }
     }
 

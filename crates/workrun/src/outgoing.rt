@@ -1,4 +1,4 @@
-ghost use Rattle.std.specs.Prelude.{◌≡◌, ◌+◌, ◌<◌, ◌++◌, [], ◌∷◌, None, IsNone, drop, length};
+ghost use Rattle.std.specs.Prelude.{◌≡◌, ◌+◌, ◌<◌, ◌++◌, [], IsNone, drop, length};
 ghost use Rattle.std.specs.Option.{option_to_list};
 ghost use Rattle.evring.specs.Charges.{charges_of, charges_of_all};
 ghost use Rattle.workrun.specs.Outgoing.{charges_left, charges_of_own};
@@ -9,7 +9,6 @@ use prio_budget::Charge;
 /// Chunks whose charges go out one after the other: those of the kept ones in order, then those of the event's own.
 #[derive(Drop)]
 pub(crate) struct Outgoing<C: Charge> {
-    pub(crate) next: Option<C>,
     pub(crate) kept: Vec<Chunk<C>>,
     pub(crate) at: usize,
     pub(crate) own: Option<Chunk<C>>,
@@ -20,23 +19,14 @@ impl<C: Charge> Outgoing<C> {
     pub(crate) fn of(kept: Vec<Chunk<C>>, own: Option<Chunk<C>>) -> Outgoing<C>
         ensures { charges_left result ≡ charges_of_all kept.items ++ charges_of_own own }
     {
-        Outgoing {
-            next: None,
-            kept,
-            at: 0,
-            own,
-        }
+        Outgoing { kept, at: 0, own }
     }
 
     /// The next charge, none where none is left.
     pub(crate) fn take(&mut self) -> Option<C>
         ensures order { charges_left self.old ≡ option_to_list result ++ charges_left self.new }
         ensures none { IsNone result → charges_left self.old ≡ [] }
-        ensures next { self.new.next ≡ None }
     {
-        if let Some(charge) = self.next.take() {
-            return Some(charge);
-        }
         while self.at < self.kept.len() {
             if let Some(charge) = charge_at(&mut self.kept, self.at) {
                 return Some(charge);
@@ -44,14 +34,6 @@ impl<C: Charge> Outgoing<C> {
             self.at += 1;
         }
         charge_of_own(&mut self.own)
-    }
-
-    /// Puts the charge that was taken last back.
-    pub(crate) fn put_back(&mut self, charge: C)
-        requires { self.old.next ≡ None }
-        ensures { charges_left self.new ≡ charge ∷ charges_left self.old }
-    {
-        self.next = Some(charge);
     }
 }
 

@@ -1,7 +1,8 @@
-ghost use Rattle.std.specs.Prelude.{◌≡◌, ◌<◌, ◌++◌, ◌∷◌, ◌⊎◌, [], vec_len};
+ghost use Rattle.std.specs.Prelude.{◌≡◌, ◌+◌, ◌<◌, ◌++◌, ◌∷◌, ◌⊎◌, [], vec_len};
 ghost use Rattle.std.specs.Vec.{vec_capacity};
 ghost use Rattle.evring.specs.Advice.{no_advice};
 ghost use Rattle.evring.specs.Charges.{charges_in};
+ghost use Rattle.workrun.specs.InWork.{places_of};
 ghost use Rattle.workrun.specs.Outgoing.{charges_left};
 
 use crate::outgoing::Outgoing;
@@ -38,6 +39,7 @@ impl<C: Charge> Release<C> {
     pub(crate) fn with_free(mut self, free: Free) -> Release<C>
         ensures same { (result.core ≡ self.core) × (result.advice ≡ self.advice) × (result.left ≡ self.left) }
         ensures room { vec_len self.frees < vec_capacity self.frees → result.frees.items ≡ self.frees.items ++ free ∷ [] }
+        ensures places { vec_len self.frees < vec_capacity self.frees → places_of result + 1 ≡ places_of self }
         ensures some { (result.frees.items ≡ self.frees.items ++ free ∷ []) ⊎ (result.frees.items ≡ self.frees.items) }
     {
         if self.frees.len() < self.frees.capacity() {

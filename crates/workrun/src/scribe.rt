@@ -1,5 +1,5 @@
 ghost use Rattle.std.specs.Prelude.{◌≡◌, [], length, flat_map, IfOk, OnOk, OnErr};
-ghost use Rattle.scap_world.specs.Contents.{extended, GainsFront};
+ghost use Rattle.scap_world.specs.Contents.{extended, GainsPart};
 ghost use Rattle.chunkpart.specs.ChunkParts.{copied_bytes, shown_bytes};
 ghost use Rattle.streamkey.specs.Key.{key_of};
 ghost use Rattle.streamdefs.specs.Convo.Seen.{Data, Over};
@@ -45,6 +45,7 @@ impl<H: Handler, K: Sink> Scribe<H, K> {
     }
 
     /// Tells that a conversation began. All memory but the sink's own is taken before the handler is called.
+    #[tactic(auto, using(crate::proofs::TellingLemmas::none_new))]
     pub(crate) fn tell_new(
         &mut self,
         core: u16,
@@ -54,7 +55,7 @@ impl<H: Handler, K: Sink> Scribe<H, K> {
         target: End,
     ) -> Result<Advice, WorkFault>
         ensures told { IfOk result (IsTold H.advice K.held self.old self.new core conv (created_by (key_of proto source target))) }
-        ensures front { OnErr result (GainsFront (K.held self.old.sink) (K.held self.new.sink) (event_line conv (created_by (key_of proto source target)))) }
+        ensures front { OnErr result (GainsPart (K.held self.old.sink) (K.held self.new.sink) (event_line conv (created_by (key_of proto source target)))) }
         ensures cause { HasCause (K.faults self.old.sink) (K.faults self.new.sink) result }
         ensures handler { self.new.handler ≡ self.old.handler }
     {
@@ -68,6 +69,7 @@ impl<H: Handler, K: Sink> Scribe<H, K> {
     }
 
     /// Tells of a chunk, with the chunks that ride with it.
+    #[tactic(auto, using(crate::proofs::TellingLemmas::none_data))]
     pub(crate) fn tell_chunk<C: Charge>(
         &mut self,
         core: u16,
@@ -78,7 +80,7 @@ impl<H: Handler, K: Sink> Scribe<H, K> {
         chunk: &Chunk<C>,
     ) -> Result<Advice, WorkFault>
         ensures told { IfOk result (IsTold H.advice K.held self.old self.new core conv (Data key.now way chunk.now.start chunk.now.gap (length (copied_bytes chunk.now)) (flat_map shown_bytes kept.now) (shown_bytes chunk.now))) }
-        ensures front { OnErr result (GainsFront (K.held self.old.sink) (K.held self.new.sink) (event_line conv (Data key.now way chunk.now.start chunk.now.gap (length (copied_bytes chunk.now)) (flat_map shown_bytes kept.now) (shown_bytes chunk.now)))) }
+        ensures front { OnErr result (GainsPart (K.held self.old.sink) (K.held self.new.sink) (event_line conv (Data key.now way chunk.now.start chunk.now.gap (length (copied_bytes chunk.now)) (flat_map shown_bytes kept.now) (shown_bytes chunk.now)))) }
         ensures cause { HasCause (K.faults self.old.sink) (K.faults self.new.sink) result }
         ensures handler { self.new.handler ≡ self.old.handler }
     {
@@ -104,6 +106,7 @@ impl<H: Handler, K: Sink> Scribe<H, K> {
     }
 
     /// Tells that a conversation ended.
+    #[tactic(auto, using(crate::proofs::TellingLemmas::none_over))]
     pub(crate) fn tell_end(
         &mut self,
         core: u16,
@@ -111,7 +114,7 @@ impl<H: Handler, K: Sink> Scribe<H, K> {
         reason: Reason,
     ) -> Result<Advice, WorkFault>
         ensures told { IfOk result (IsTold H.advice K.held self.old self.new core conv (Over reason)) }
-        ensures front { OnErr result (GainsFront (K.held self.old.sink) (K.held self.new.sink) (event_line conv (Over reason))) }
+        ensures front { OnErr result (GainsPart (K.held self.old.sink) (K.held self.new.sink) (event_line conv (Over reason))) }
         ensures cause { HasCause (K.faults self.old.sink) (K.faults self.new.sink) result }
         ensures handler { self.new.handler ≡ self.old.handler }
     {

@@ -1,16 +1,17 @@
-ghost use Rattle.std.specs.Prelude.{◌≡◌, ◌<◌, ◌++◌, ◌∷◌, [], length, flat_map, IfOk, IfErr, OnOk, OnErr, IsOk, true, false, vec_len, ℕ, None, Ok, Err, not};
+ghost use Rattle.std.specs.Prelude.{◌≡◌, ◌-◌, ◌<◌, ◌≤◌, ◌++◌, ◌∷◌, [], length, flat_map, IfOk, IfErr, OnOk, OnErr, IsOk, true, false, vec_len, ℕ, None, Ok, Err, not};
 ghost use Rattle.std.specs.Vec.{vec_capacity};
-ghost use Rattle.scap_world.specs.Contents.{GainsFront};
+ghost use Rattle.scap_world.specs.Contents.{GainsPart};
 ghost use Rattle.chunkpart.specs.ChunkParts.{copied_bytes, shown_bytes};
 ghost use Rattle.evring.specs.Advice.{no_advice};
 ghost use Rattle.evring.specs.Charges.{charges_in, charges_of, charges_of_all};
 ghost use Rattle.streamdefs.specs.Convo.Seen.{Data};
 ghost use Rattle.streamdefs.specs.Handler.{event_line};
 ghost use Rattle.handler.specs.Seen.{conv_of, seen_in};
+ghost use Rattle.workrun.specs.InWork.{places_of};
 ghost use Rattle.workrun.specs.Outgoing.{charges_left};
 ghost use Rattle.workrun.specs.AtWork.{Hand, kept_for, stated_of, taken, with_advice};
 ghost use Rattle.workrun.specs.Telling.{HasCause, IsTold};
-ghost use Rattle.workrun.specs.Steps.{IsBack, IsOut, IsReleasing, Served, Stayed, Turned, Worked};
+ghost use Rattle.workrun.specs.Steps.{IsOut, IsReleasing, Served, Stayed, Turned, Worked};
 
 use crate::outgoing::Outgoing;
 use crate::release::Release;
@@ -29,7 +30,7 @@ impl<H: Handler, K: Sink, C: Charge> Worker<H, K, C> {
     pub(crate) fn begin(&mut self, core: u16, event: Event<C>) -> Result<WorkTurn<C>, WorkFault>
         requires empty { self.old.work ≡ Work.Nothing }
         ensures served { self.old.calm ≡ true → IfOk result (Served C.amount C.stamp H.advice K.held self.old.scribe self.new.scribe core event self.new.work) }
-        ensures front { OnErr result (GainsFront (K.held self.old.scribe.sink) (K.held self.new.scribe.sink) (event_line (conv_of event) (seen_in event))) }
+        ensures front { OnErr result (GainsPart (K.held self.old.scribe.sink) (K.held self.new.scribe.sink) (event_line (conv_of event) (seen_in event))) }
         ensures turned { IfOk result (Turned C.amount C.stamp core [] (charges_in event) self.old.calm self.new.work) }
         ensures stayed { OnErr result (Stayed core [] (charges_in event) self.new.work) }
         ensures calm { OnOk result (self.new.calm ≡ self.old.calm) }
@@ -39,7 +40,7 @@ impl<H: Handler, K: Sink, C: Charge> Worker<H, K, C> {
         ensures cause { HasCause (K.faults self.old.scribe.sink) (K.faults self.new.scribe.sink) result }
     {
         if !self.calm {
-            return self.go_on(Release::untold(self.alloc, core, event));
+            return Ok(self.go_on(Release::untold(self.alloc, core, event)));
         }
         match event {
             Event::New {
@@ -120,7 +121,7 @@ impl<H: Handler, K: Sink, C: Charge> Worker<H, K, C> {
         requires empty { self.old.work ≡ Work.Nothing }
         requires calm { self.old.calm ≡ true }
         ensures served { IfOk result (Served C.amount C.stamp H.advice K.held self.old.scribe self.new.scribe core (Event.Chunk conv way key kept.items chunk) self.new.work) }
-        ensures front { OnErr result (GainsFront (K.held self.old.scribe.sink) (K.held self.new.scribe.sink) (event_line conv (seen_in (Event.Chunk conv way key kept.items chunk)))) }
+        ensures front { OnErr result (GainsPart (K.held self.old.scribe.sink) (K.held self.new.scribe.sink) (event_line conv (seen_in (Event.Chunk conv way key kept.items chunk)))) }
         ensures turned { IfOk result (Turned C.amount C.stamp core [] (charges_in (Event.Chunk conv way key kept.items chunk)) true self.new.work) }
         ensures stayed { OnErr result (Stayed core [] (charges_in (Event.Chunk conv way key kept.items chunk)) self.new.work) }
         ensures calm { OnOk result (self.new.calm ≡ true) }
@@ -139,7 +140,7 @@ impl<H: Handler, K: Sink, C: Charge> Worker<H, K, C> {
             &mut kept,
             &chunk,
         ) {
-            Ok(advice) => self.heed(core, advice, frees, kept, chunk),
+            Ok(advice) => Ok(self.heed(core, advice, frees, kept, chunk)),
             Err(fault) => {
                 let event = Event::Chunk {
                     conv,
@@ -162,23 +163,20 @@ impl<H: Handler, K: Sink, C: Charge> Worker<H, K, C> {
         frees: Vec<Free>,
         mut kept: Vec<Chunk<C>>,
         chunk: Chunk<C>,
-    ) -> Result<WorkTurn<C>, WorkFault>
+    ) -> WorkTurn<C>
         requires empty { self.old.work ≡ Work.Nothing }
         requires calm { self.old.calm ≡ true }
         requires room { vec_len kept < vec_capacity kept }
         requires none { frees.items ≡ [] }
+        requires places { length (charges_of_all kept.items ++ charges_of chunk) ≤ vec_capacity frees - vec_len frees }
         ensures worked { (conv : ℕ) (way : Way) (key : Key) → advice ≡ stated_of (H.advice self.old.scribe.handler) (Event.Chunk conv way key kept.items chunk)
-            → IfOk result (Worked C.amount C.stamp (H.advice self.old.scribe.handler) (taken core (Event.Chunk conv way key kept.items chunk)) self.new.work) }
-        ensures turned { IfOk result (Turned C.amount C.stamp core [] (charges_of_all kept.items ++ charges_of chunk) true self.new.work) }
-        ensures stayed { OnErr result (Stayed core [] (charges_of_all kept.items ++ charges_of chunk) self.new.work) }
-        ensures calm { OnOk result (self.new.calm ≡ true) }
-        ensures fault { OnErr result (self.new.calm ≡ false) }
-        ensures same { (self.new.scribe ≡ self.old.scribe) × (self.new.circle ≡ self.old.circle) }
-        ensures cause { HasCause (K.faults self.old.scribe.sink) (K.faults self.new.scribe.sink) result }
+            → Worked C.amount C.stamp (H.advice self.old.scribe.handler) (taken core (Event.Chunk conv way key kept.items chunk)) self.new.work result }
+        ensures turned { Turned C.amount C.stamp core [] (charges_of_all kept.items ++ charges_of chunk) true self.new.work result }
+        ensures same { (self.new.scribe ≡ self.old.scribe) × (self.new.circle ≡ self.old.circle) × (self.new.calm ≡ true) }
     {
         if advice.keep {
             kept.push_reserved(chunk);
-            return Ok(answer_of(true, core, advice, frees, kept));
+            return answer_of(true, core, advice, frees, kept);
         }
         self.go_on(Release {
             core,
@@ -189,16 +187,12 @@ impl<H: Handler, K: Sink, C: Charge> Worker<H, K, C> {
     }
 
     /// The next charge of an event goes out, or the answer.
-    pub(crate) fn go_on(&mut self, mut release: Release<C>) -> Result<WorkTurn<C>, WorkFault>
+    pub(crate) fn go_on(&mut self, mut release: Release<C>) -> WorkTurn<C>
         requires empty { self.old.work ≡ Work.Nothing }
-        ensures worked { self.old.calm ≡ true → (h : Hand C) → IsReleasing C.amount (H.advice self.old.scribe.handler) h release [] → IfOk result (Worked C.amount C.stamp (H.advice self.old.scribe.handler) h self.new.work) }
-        ensures turned { IfOk result (Turned C.amount C.stamp release.core release.frees.items (charges_left release.left) self.old.calm self.new.work) }
-        ensures stayed { OnErr result (Stayed release.core release.frees.items (charges_left release.left) self.new.work) }
-        ensures calm { OnOk result (self.new.calm ≡ self.old.calm) }
-        ensures fault { OnErr result (self.new.calm ≡ false) }
-        ensures drains { self.old.calm ≡ false → IsOk result }
-        ensures same { (self.new.scribe ≡ self.old.scribe) × (self.new.circle ≡ self.old.circle) }
-        ensures cause { HasCause (K.faults self.old.scribe.sink) (K.faults self.new.scribe.sink) result }
+        requires places { self.old.calm ≡ true → length (charges_left release.left) ≤ places_of release }
+        ensures worked { self.old.calm ≡ true → (h : Hand C) → IsReleasing C.amount (H.advice self.old.scribe.handler) h release [] → Worked C.amount C.stamp (H.advice self.old.scribe.handler) h self.new.work result }
+        ensures turned { Turned C.amount C.stamp release.core release.frees.items (charges_left release.left) self.old.calm self.new.work result }
+        ensures same { (self.new.scribe ≡ self.old.scribe) × (self.new.circle ≡ self.old.circle) × (self.new.calm ≡ self.old.calm) }
     {
         match release.left.take() {
             Some(charge) => self.give(release, charge),
@@ -210,39 +204,29 @@ impl<H: Handler, K: Sink, C: Charge> Worker<H, K, C> {
                     ..
                 } = release;
                 let kept = Vec::new(self.alloc);
-                Ok(answer_of(self.calm, core, advice, frees, kept))
+                answer_of(self.calm, core, advice, frees, kept)
             }
         }
     }
 
-    /// A charge goes out, once there is room for its release.
-    fn give(&mut self, mut release: Release<C>, charge: C) -> Result<WorkTurn<C>, WorkFault>
-        requires next { release.left.next ≡ None }
-        ensures free { IfOk result (λ turn. turn ≡ WorkTurn.Free charge) }
-        ensures waits { OnOk result (IsOut (C.amount charge) (C.stamp charge) release self.new.work) }
-        ensures stays { OnErr result (IsBack charge release self.new.work) }
-        ensures calm { OnOk result (self.new.calm ≡ self.old.calm) }
-        ensures fault { OnErr result (self.new.calm ≡ false) }
-        ensures drains { self.old.calm ≡ false → IsOk result }
-        ensures same { (self.new.scribe ≡ self.old.scribe) × (self.new.circle ≡ self.old.circle) }
-        ensures cause { HasCause (K.faults self.old.scribe.sink) (K.faults self.new.scribe.sink) result }
+    /// A charge goes out.
+    fn give(&mut self, release: Release<C>, charge: C) -> WorkTurn<C>
+        requires places { self.old.calm ≡ true → length (charges_left release.left) < places_of release }
+        ensures free { result ≡ WorkTurn.Free charge }
+        ensures waits { IsOut (C.amount charge) (C.stamp charge) release self.new.work }
+        ensures same { (self.new.scribe ≡ self.old.scribe) × (self.new.circle ≡ self.old.circle) × (self.new.calm ≡ self.old.calm) }
     {
-        if !has_place(self.calm, &mut release.frees) {
-            release.left.put_back(charge);
-            self.calm = false;
-            self.work = Work::Releases { release };
-            return Err(WorkFault::Memory);
-        }
         self.work = Work::Waits {
             bytes: charge.amount(),
             stamp: charge.stamp(),
             release,
         };
-        Ok(WorkTurn::Free(charge))
+        WorkTurn::Free(charge)
     }
 }
 
 /// Makes room for the releases of a chunk and for the chunk among the kept ones, and tells of it.
+#[tactic(auto, using(crate::proofs::TellingLemmas::none_data))]
 fn tell_chunk<H: Handler, K: Sink, C: Charge>(
     scribe: &mut Scribe<H, K>,
     core: u16,
@@ -254,28 +238,43 @@ fn tell_chunk<H: Handler, K: Sink, C: Charge>(
     chunk: &Chunk<C>,
 ) -> Result<Advice, WorkFault>
     ensures told { IfOk result (IsTold H.advice K.held scribe.old scribe.new core conv (Data key.now way chunk.now.start chunk.now.gap (length (copied_bytes chunk.now)) (flat_map shown_bytes kept.old.items) (shown_bytes chunk.now))) }
-    ensures front { OnErr result (GainsFront (K.held scribe.old.sink) (K.held scribe.new.sink) (event_line conv (Data key.now way chunk.now.start chunk.now.gap (length (copied_bytes chunk.now)) (flat_map shown_bytes kept.old.items) (shown_bytes chunk.now)))) }
+    ensures front { OnErr result (GainsPart (K.held scribe.old.sink) (K.held scribe.new.sink) (event_line conv (Data key.now way chunk.now.start chunk.now.gap (length (copied_bytes chunk.now)) (flat_map shown_bytes kept.old.items) (shown_bytes chunk.now)))) }
     ensures cause { HasCause (K.faults scribe.old.sink) (K.faults scribe.new.sink) result }
     ensures handler { scribe.new.handler ≡ scribe.old.handler }
     ensures kept { kept.new.items ≡ kept.old.items }
     ensures frees { frees.new.items ≡ frees.old.items }
+    ensures places { OnOk result (length (charges_of_all kept.new.items ++ charges_of chunk.now) ≤ vec_capacity frees.new - vec_len frees.new) }
     ensures room { OnOk result (vec_len kept.new < vec_capacity kept.new) }
 {
-    frees.reserve(kept.len().saturating_add(1))?;
-    kept.reserve(1)?;
+    make_room(frees, kept, chunk)?;
     scribe.tell_chunk(core, conv, way, key, kept, chunk)
 }
 
-/// Whether there is room for one release more. Drain mode takes no memory, and needs none.
-fn has_place(calm: bool, frees: &mut Vec<Free>) -> bool
-    ensures items { frees.new.items ≡ frees.old.items }
-    ensures place { result ≡ true → calm ≡ true → vec_len frees.new < vec_capacity frees.new }
-    ensures drains { calm ≡ false → result ≡ true }
+/// Makes room for the releases of a chunk and of those that ride with it, and for the chunk among these.
+fn make_room<C: Charge>(
+    frees: &mut Vec<Free>,
+    kept: &mut Vec<Chunk<C>>,
+    chunk: &Chunk<C>,
+) -> Result<(), chunkpart::Memory>
+    ensures kept { kept.new.items ≡ kept.old.items }
+    ensures frees { frees.new.items ≡ frees.old.items }
+    ensures places { OnOk result (length (charges_of_all kept.new.items ++ charges_of chunk.now) ≤ vec_capacity frees.new - vec_len frees.new) }
+    ensures room { OnOk result (vec_len kept.new < vec_capacity kept.new) }
 {
-    if !calm {
-        return true;
+    frees.reserve(count_charges(kept, chunk)?)?;
+    kept.reserve(1)?;
+    Ok(())
+}
+
+/// The number of charges of a chunk and of those that ride with it.
+fn count_charges<C: Charge>(kept: &[Chunk<C>], chunk: &Chunk<C>) -> Result<usize, chunkpart::Memory>
+    ensures { IfOk result (λ n. n ≡ length (charges_of_all kept.now ++ charges_of chunk.now)) }
+{
+    let mut count = chunk.parts();
+    for before in kept {
+        count = count.checked_add(before.parts()).ok_or(chunkpart::Memory)?;
     }
-    frees.reserve(1).is_ok()
+    Ok(count)
 }
 
 /// The answer to an event: what the handler wants and what comes back, and neither in drain mode.

@@ -1,5 +1,5 @@
-ghost use Rattle.std.specs.Prelude.{◌≡◌, ◌<◌, true};
-ghost use Rattle.workrun.specs.InWork.{free_places};
+ghost use Rattle.std.specs.Prelude.{◌≡◌, ◌≤◌, true};
+ghost use Rattle.workrun.specs.InWork.{places_in, places_wanted};
 
 use crate::circle::Circle;
 use crate::scribe::Scribe;
@@ -18,5 +18,5 @@ pub struct Worker<H: Handler, K: Sink, C: Charge> {
     pub(crate) work: Work<C>,
     /// It isn't in drain mode.
     pub(crate) calm: bool,
-    pub(crate) ghost room: { calm ≡ true → 0 < free_places work },
+    pub(crate) ghost room: { calm ≡ true → places_wanted work ≤ places_in work },
 }

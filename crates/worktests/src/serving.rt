@@ -7,7 +7,7 @@ use evring::{Advice, Answer, Event, Kept, Reason, Way};
 use handler::{ChunkView, Handler};
 use histbook::WorkList;
 use prio_budget::{Answered, Charge, Free, Marks, Part, PartBytes, PlainBudget, PlainCharge};
-use scap_world::{FailCall, MemShelf, MemSink, Shelf};
+use scap_world::{FailCall, MemShelf, MemSink, Shelf, Sink, WorldFault};
 use std::alloc::Global;
 use std::cell::Cell;
 use std::mem;
@@ -58,7 +58,26 @@ impl<'a> Handler for KeepsBefore<'a> {
     }
 }
 
-type Tried<'a> = Worker<KeepsBefore<'a>, MemSink, PlainCharge>;
+/// Counts the bytes that it is given. It takes no memory.
+#[derive(Drop)]
+struct Counter {
+    bytes: usize,
+}
+
+impl Sink for Counter {
+    ghost use Rattle.std.specs.Prelude.{None};
+
+    ghost held = { λ _. None };
+
+    ghost faults = { λ _. 0 };
+
+    fn write(&mut self, piece: &[u8]) -> Result<usize, WorldFault> {
+        self.bytes = self.bytes.saturating_add(piece.len());
+        Ok(piece.len())
+    }
+}
+
+type Tried<'a, K> = Worker<KeepsBefore<'a>, K, PlainCharge>;
 
 /// A chunk: its start, its copy, and its fresh parts, none where they are empty.
 #[derive(Clone, Copy)]
@@ -335,7 +354,11 @@ fn note(heard: &mut Heard, fault: WorkFault) {
 }
 
 /// One turn of a worker. True: it was the answer.
-fn turn(worker: &mut Tried, budget: &mut PlainBudget, heard: &mut Heard) -> Result<bool, Fail>
+fn turn<K: Sink>(
+    worker: &mut Tried<K>,
+    budget: &mut PlainBudget,
+    heard: &mut Heard,
+) -> Result<bool, Fail>
     requires { pause worker.old ≡ Still }
     ensures still { OnOk result (pause worker.new ≡ Still) }
     ensures done { IfOk result (λ done. done ≡ true → core_in_hand worker.new ≡ None) }
@@ -359,8 +382,8 @@ fn turn(worker: &mut Tried, budget: &mut PlainBudget, heard: &mut Heard) -> Resu
 }
 
 /// An event from the hand to its answer.
-fn serve(
-    worker: &mut Tried,
+fn serve<K: Sink>(
+    worker: &mut Tried<K>,
     budget: &mut PlainBudget,
     heard: &mut Heard,
     event: Event<PlainCharge>,
@@ -460,6 +483,68 @@ fn want_of_memory_drains(rt: HostRuntime) -> Result<(), Fail> {
     Ok(())
 }
 
+/// Of a row over a sink that takes no memory: how often the handler was asked, how many answers are of drain mode, how often there
+/// was no memory, how many bytes were written, and how many are in use at the end.
+fn counted(alloc: Global, row: Row) -> Result<(u32, u32, u32, usize, u32), Fail> {
+    let asked = Cell::new(0);
+    let marks = Marks::new(4096, 4096, 1)?;
+    let mut budget = PlainBudget::new(&marks, 0);
+    let handler = KeepsBefore {
+        position: row.position,
+        asked: &asked,
+    };
+    let mut worker: Tried<Counter> = Worker::new(alloc, handler, Counter { bytes: 0 }, 0, 1, 1);
+    let mut heard = Heard {
+        alloc,
+        answers: Vec::new(alloc),
+        drained: 0,
+        kept: Kept::none(alloc),
+        faults: 0,
+        shortages: 0,
+    };
+    'events: for event in events_of(alloc, &mut budget, row)? {
+        serve(&mut worker, &mut budget, &mut heard, event)?;
+    }
+    let (sink, _) = worker.into_parts();
+    Ok((
+        asked.get(),
+        heard.drained,
+        heard.shortages,
+        sink.bytes,
+        budget.used(),
+    ))
+}
+
+/// How long the first so many lines are.
+fn length_of(lines: &str, count: u32) -> usize {
+    let mut left = count;
+    let mut length: usize = 0;
+    for byte in lines.as_bytes() {
+        if left > 0 {
+            length = length.saturating_add(1);
+            if *byte == b'\n' {
+                left -= 1;
+            }
+        }
+    }
+    length
+}
+
+/// Where the sink takes no memory, the handler is asked of an event only once all its memory was taken: it is asked of each event
+/// that isn't drained and of no other, and the lines of these are written whole. As above, `--fail-alloc N` refuses some.
+#[test]
+fn memory_is_taken_before_the_handler_is_asked(rt: HostRuntime) -> Result<(), Fail> {
+    for row in [OVERLAP, KEEP] {
+        let (asked, drained, shortages, written, used) = counted(rt.alloc(), row)?;
+        assert_eq!(rt; asked.saturating_add(drained), 4);
+        assert_eq!(rt;
+            (shortages, written, used),
+            (drained.min(1), length_of(row.lines, asked), 0)
+        );
+    }
+    Ok(())
+}
+
 /// Behind a refused write nothing is written and the handler isn't asked any more, but every charge is released.
 #[test]
 fn each_write_is_refused(rt: HostRuntime) -> Result<(), Fail> {
@@ -510,7 +595,7 @@ fn cores_are_looked_at_round(rt: HostRuntime) -> Result<(), Fail> {
         position: 0,
         asked: &asked,
     };
-    let mut worker: Tried = Worker::new(rt.alloc(), handler, sink, 1, 2, 6);
+    let mut worker: Tried<MemSink> = Worker::new(rt.alloc(), handler, sink, 1, 2, 6);
     let least_first = [worker.wants(0), worker.wants(1), worker.wants(2)];
     assert_eq!(rt; least_first, [1, 3, 5]);
     worker.load(

@@ -2,6 +2,7 @@ use Rattle.scapconf.specs.declared.status.Status.TheVariants.{Done, WriteFault}
 use Rattle.labtop.specs.Names.{delivery_name, report_name}
 use Rattle.labtop.specs.Words.{told_word}
 use Rattle.labtop.proofs.AnswerLemmas.{answer_by, done_by, done_refused, either_since, kinds_by, parts_by, parts_same, read_behind, refusal, refusal_not, refused_kinds, told_few, write_refused}
+use Rattle.labtop.proofs.SettingsLemmas.{few_behind, few_without}
 use Rattle.labtop.proofs.drill.drill_by.Goals as goal
 
 pub returns-in-Ok-clause-answer : goal.returns-in-Ok-clause-answer
@@ -48,3 +49,9 @@ returns-in-Err-clause-parts g c = parts_same _ _ _ _ _ c.in-Err.ensures.files
 
 pub returns-in-Err-clause-write : goal.returns-in-Err-clause-write
 returns-in-Err-clause-write g c = refusal_not _ (g.S.Shelf.files c.args.shelf.now) (told_word c.args.settings) _ _ WriteFault c.without_report.ensures.status c.in-Err.ensures.refused (write_refused (g.S.Shelf.files c.args.shelf.now) (told_word c.args.settings))
+
+pub returns-in-Ok-clause-settings_few : goal.returns-in-Ok-clause-settings_few
+returns-in-Ok-clause-settings_few g c = few_behind (g.S.Shelf.files c.args.shelf.now) c.drill_with.result.status (told_word c.args.settings) (g.S.Shelf.taken c.drill_with.new.shelf) c.drill_with.ensures.kinds
+
+pub returns-in-Err-clause-settings_few : goal.returns-in-Err-clause-settings_few
+returns-in-Err-clause-settings_few g c = few_without (g.S.Shelf.files c.args.shelf.now) _ _ (told_word c.args.settings) (g.S.Shelf.taken c.settings_by.new.shelf) c.without_report.ensures.status c.in-Err.ensures.few

@@ -11,7 +11,7 @@ use Rattle.labtop.specs.MatchAnswers.{no_filter, IsOfMatch, IsWritten, LeavesMat
 use Rattle.labtop.specs.Matching.{IsEnd}
 use Rattle.scapconf.specs.declared.status.Status.{Status}
 use Rattle.scapconf.specs.declared.status.Status.TheVariants.{Done, Memory, WriteFault}
-use Rattle.labtop.specs.Answers.{Completes, HasHistory, IsBefore, IsDoneBy, IsOfDrillBy, IsPart, LeavesBy}
+use Rattle.labtop.specs.Answers.{Completes, HasHistory, IsBefore, IsDoneBy, IsOfDrillBy, IsPart, LeavesBy, TakesFew}
 use Rattle.labtop.specs.Drill.{asked_of}
 use Rattle.labtop.specs.Causes.{RoseAtOutputs, RoseAtSettings}
 use Rattle.labtop.specs.Settings.{GoesBy}
@@ -53,6 +53,12 @@ returns-in-Ok-Drill-clause-few g c = at_drill
     (λ settings capture out. c.drill_by.result.status ≡ Done → IfSome (g.S.Shelf.files c.args.shelf.now) (λ _. g.S.Shelf.taken c.drill_by.new.shelf capture ≤ MOST_BUILT + 1))
     c.in-Ok-Drill.settings c.in-Ok-Drill.capture c.in-Ok-Drill.out _ (rw c.in-Ok-Drill.field-0-is at c.in-Ok-Drill.ensures)
     c.drill_by.ensures.few
+
+pub returns-in-Ok-Drill-clause-settings_few : goal.returns-in-Ok-Drill-clause-settings_few
+returns-in-Ok-Drill-clause-settings_few g c = at_drill
+    (λ settings capture out. IfSome (g.S.Shelf.files c.args.shelf.now) (λ _. TakesFew c.drill_by.result.status settings (g.S.Shelf.taken c.drill_by.new.shelf)))
+    c.in-Ok-Drill.settings c.in-Ok-Drill.capture c.in-Ok-Drill.out _ (rw c.in-Ok-Drill.field-0-is at c.in-Ok-Drill.ensures)
+    c.drill_by.ensures.settings_few
 
 pub returns-in-Ok-Drill-clause-complete : goal.returns-in-Ok-Drill-clause-complete
 returns-in-Ok-Drill-clause-complete g c = at_drill

@@ -4,4 +4,4 @@ use Rattle.workrun.specs.Pause.Pause.{Still}
 use Rattle.worktests.proofs.serving.serve.Given as goal
 
 abbrev pub invariant-turns : goal.invariant-turns
-invariant-turns l = pause l.worker ≡ Still
+invariant-turns g l = pause l.worker ≡ Still

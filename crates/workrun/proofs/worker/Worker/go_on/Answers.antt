@@ -1,5 +1,5 @@
 use Rattle.std.proofs.Common.{refl}
-use Rattle.workrun.proofs.TurnLemmas.{back_stayed, done_turned, done_worked, given_turned, given_worked}
+use Rattle.workrun.proofs.TurnLemmas.{done_turned, done_worked, given_turned, given_worked}
 use Rattle.workrun.proofs.worker.Worker.go_on.Goals as goal
 
 pub returns-in-Some-clause-worked : goal.returns-in-Some-clause-worked
@@ -21,8 +21,3 @@ pub returns-in-Some-clause-turned : goal.returns-in-Some-clause-turned
 returns-in-Some-clause-turned g c =
     given_turned g.C.Charge.amount g.C.Charge.stamp c.args.release.core c.args.release.frees.items _ c.args.self.now.calm (record c.args.release { left = c.take.new.self }) c.in-Some.charge c.give.new.self.work c.give.result
     c.in-Some.ensures.order refl refl c.give.ensures.free c.give.ensures.waits
-
-pub returns-in-Some-clause-stayed : goal.returns-in-Some-clause-stayed
-returns-in-Some-clause-stayed g c =
-    back_stayed c.args.release.core c.args.release.frees.items _ (record c.args.release { left = c.take.new.self }) c.in-Some.charge c.give.new.self.work c.give.result
-    c.in-Some.ensures.order refl refl c.give.ensures.stays
