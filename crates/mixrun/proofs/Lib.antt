@@ -18,3 +18,5 @@ pub mod SoFarLaws
 pub mod RowLemmas
 pub mod ByteLaws
 pub mod ShownLaws
+pub mod ScheduleSteps
+pub mod ScheduleRuns

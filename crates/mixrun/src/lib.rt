@@ -6,5 +6,7 @@
 mod actor;
 pub mod laws;
 pub mod rows;
+pub mod schedule_rows;
+pub mod schedules;
 
 pub use actor::Actor;
