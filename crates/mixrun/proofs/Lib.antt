@@ -20,3 +20,7 @@ pub mod ByteLaws
 pub mod ShownLaws
 pub mod ScheduleSteps
 pub mod ScheduleRuns
+pub mod DrillRuns
+pub mod DrillCourse
+pub mod DrillSteps
+pub mod DrillEnds

@@ -1,15 +1,15 @@
 -- A moment and a schedule, or a seed, determine a run, which is so many steps of the machine.
-use Rattle.std.proofs.Common.{◌≡◌, ℕ, zero, suc, ◌≤◌, ◌⊎◌, inl, inr, List, [], ◌∷◌, ◌++◌, refl, ap, sym, ◌∙◌, subst, arith, length, map}
+use Rattle.std.proofs.Common.{◌≡◌, ℕ, zero, suc, ◌≤◌, inl, inr, List, [], ◌∷◌, refl, ap, sym, ◌∙◌, subst, arith, length}
 use Rattle.mixrun.specs.declared.actor.Actor.{Actor}
 use Rattle.mixrun.specs.Moment.{Setup, Moment}
 use Rattle.mixrun.specs.Steps.{Steps}
 use Rattle.mixrun.specs.Ledger.{AreMarks}
 use Rattle.mixrun.specs.Holds.{Holds}
-use Rattle.mixrun.specs.Schedule.{IsIdle, AreAllIdle, Acts, Runs, FirstActs, ActsFor, Follows, drawn, states, state_behind, named, names_by, actors_at, Seeded, Reaches}
+use Rattle.mixrun.specs.Schedule.{IsIdle, AreAllIdle, Acts, Runs, FirstActs, ActsFor, Follows, drawn, state_behind, named, names_by, actors_at, Seeded, Reaches}
 use Rattle.mixrun.proofs.ScheduleSteps.{acts_same, acts_step, idle_no_step}
 use Rattle.mixrun.proofs.HoldLaws.{steps_keep}
 
-idle_or_acts : {R : Type 0} (s : Setup) (m n : Moment) (actor : Actor) → IsIdle s m actor → Acts s actor m n → R
+pub idle_or_acts : {R : Type 0} (s : Setup) (m n : Moment) (actor : Actor) → IsIdle s m actor → Acts s actor m n → R
 idle_or_acts s m n actor idle acts = absurd (idle_no_step s m n actor idle (acts_step s m n actor acts))
 
 -- Runs by actors
@@ -33,7 +33,7 @@ runs_reach s (actor ∷ schedule) m n moved (inr (idle, rest)) = let further = r
 
 -- Runs by names
 
-first_same : (s : Setup) (all : List Actor) (m n k : Moment) → FirstActs s all m n → FirstActs s all m k → n ≡ k
+pub first_same : (s : Setup) (all : List Actor) (m n k : Moment) → FirstActs s all m n → FirstActs s all m k → n ≡ k
 first_same s [] m n k h g = absurd h
 first_same s (actor ∷ others) m n k (inl acts) (inl does) = acts_same s m n k actor acts does
 first_same s (actor ∷ others) m n k (inl acts) (inr (idle, rest)) = idle_or_acts s m n actor idle acts
@@ -47,7 +47,7 @@ for_same s all name m n k (inr (idle, rest)) (inl does) = idle_or_acts s m k nam
 for_same s all name m n k (inr (idle, rest)) (inr (quiet, further)) = first_same s all m n k rest further
 
 -- a step of the machine
-first_step : (s : Setup) (all : List Actor) (m n : Moment) → FirstActs s all m n → (actor : Actor) × Steps s actor m n
+pub first_step : (s : Setup) (all : List Actor) (m n : Moment) → FirstActs s all m n → (actor : Actor) × Steps s actor m n
 first_step s [] m n h = absurd h
 first_step s (actor ∷ others) m n (inl acts) = (actor, acts_step s m n actor acts)
 first_step s (actor ∷ others) m n (inr (idle, rest)) = first_step s others m n rest
@@ -57,7 +57,7 @@ for_step s all name m n (inl acts) = (name, acts_step s m n name acts)
 for_step s all name m n (inr (idle, rest)) = first_step s all m n rest
 
 -- which there is not where all are idle
-first_not_idle : (s : Setup) (all : List Actor) (m n : Moment) → AreAllIdle s m → FirstActs s all m n → ⊥
+pub first_not_idle : (s : Setup) (all : List Actor) (m n : Moment) → AreAllIdle s m → FirstActs s all m n → ⊥
 first_not_idle s [] m n idle h = h
 first_not_idle s (actor ∷ others) m n idle (inl acts) = idle_or_acts s m n actor (idle actor) acts
 first_not_idle s (actor ∷ others) m n idle (inr (quiet, rest)) = first_not_idle s others m n idle rest

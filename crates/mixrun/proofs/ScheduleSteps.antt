@@ -1,24 +1,21 @@
 -- Each actor has one step at a moment, and none where it is idle.
-use Rattle.std.proofs.Common.{◌≡◌, ◌≢◌, ℕ, zero, suc, ◌+◌, ◌≤◌, ◌<◌, ◌%◌, ◌⊎◌, inl, inr, Bool, true, false, cond, List, [], ◌∷◌, ◌++◌, Option, Some, None, refl, ap, sym, ◌∙◌, subst, arith, length, drop, set, slice_get}
+use Rattle.std.proofs.Common.{◌≡◌, ◌≢◌, ℕ, zero, suc, ◌+◌, ◌≤◌, ◌<◌, inl, inr, Bool, true, false, cond, List, [], ◌∷◌, ◌++◌, Option, Some, None, refl, ap, sym, ◌∙◌, subst, arith, length, drop, set, slice_get}
 use Rattle.std.specs.Prelude.{nat_lt, option_map}
 use Rattle.std.proofs.lemmas.Option.{slice_get_within}
-use Rattle.std.proofs.lemmas.Bool.Decides.{nat_tests}
-use Rattle.streamdefs.specs.Reorder.{Charge}
 use Rattle.streamdefs.specs.Terms.{Terms}
 use Rattle.streamdefs.specs.Convo.{Event}
 use Rattle.streamdefs.specs.Lawful.{handler_at}
-use Rattle.streamdefs.specs.Want.{Want}
 use Rattle.streamdefs.specs.Want.Want.{Reserve, Release, Emit, Rest}
-use Rattle.coretable.specs.Course.{Course, Under, Stop, Step, step, GoesOn, After, Comes}
+use Rattle.coretable.specs.Course.{Course, Under, Stop, Step, step, GoesOn, After}
 use Rattle.coretable.specs.Course.Step.{Goes, Stops}
 use Rattle.coretable.specs.Course.Stop.{Wants, Fills, Rests, Finishes}
 use Rattle.mixrun.specs.declared.actor.Actor.{Actor}
 use Rattle.mixrun.specs.declared.actor.Actor.TheVariants as actors
-use Rattle.mixrun.specs.Moment.{Setup, Input, Given, Reply, AtCore, InHand, AtWorker, Pair, Moment}
-use Rattle.mixrun.specs.Moves.{CoreMove, moved, pair_behind, look_at, free_at, behind_free, given_of, IsGivenBy, Serves, IsFirst, next_owed, reply_of, given_back, taken}
+use Rattle.mixrun.specs.Moment.{Setup, Given, AtCore, InHand, AtWorker, Pair, Moment}
+use Rattle.mixrun.specs.Moves.{CoreMove, moved, pair_behind, look_at, free_at, behind_free, given_of, IsGivenBy, Serves, next_owed, reply_of, given_back, taken}
 use Rattle.mixrun.specs.Moves.CoreMove.{Loads, Asks, Frees, Emits, TakesBack}
-use Rattle.mixrun.specs.Steps.{MayMove, Settles, CoreStep, is_back, MovesCore, TakesOne, GivesOne, AnswersOne, Steps}
-use Rattle.mixrun.specs.Schedule.{IsCoreIdle, IsBackIdle, NoneWaits, IsIdle, last_of, round_place, IsInTurn, Acts}
+use Rattle.mixrun.specs.Steps.{MayMove, Settles, is_back, MovesCore, TakesOne, GivesOne, AnswersOne, Steps}
+use Rattle.mixrun.specs.Schedule.{IsCoreIdle, IsBackIdle, IsIdle, last_of, round_place, IsInTurn, Acts}
 
 -- What a table does by itself ends in one place
 
@@ -95,12 +92,12 @@ move_is terms p a (Asks look) false b (stop, stops, serves) = ap (move_at terms 
 move_is terms p a (Frees free) false b (stop, stops, serves) = ap (move_at terms p a) stops ∙ serves_is terms p a (Frees free) stop serves
 move_is terms p a (Emits given) false b (stop, stops, serves) = ap (move_at terms p a) stops ∙ serves_is terms p a (Emits given) stop serves
 
-same_some : {A : Type 0} (o : Option A) (x y : A) → o ≡ Some x → o ≡ Some y → x ≡ y
+pub same_some : {A : Type 0} (o : Option A) (x y : A) → o ≡ Some x → o ≡ Some y → x ≡ y
 same_some o x y e f = let both : Some x ≡ Some y = sym e ∙ f in cc
 
 -- A moment is its parts
 
-moment_same : (n k : Moment) → n.cores ≡ k.cores → n.workers ≡ k.workers → n.pair ≡ k.pair → n ≡ k
+pub moment_same : (n k : Moment) → n.cores ≡ k.cores → n.workers ≡ k.workers → n.pair ≡ k.pair → n ≡ k
 moment_same n k cores workers pair = λ i. record { cores = cores i; workers = workers i; pair = pair i }
 
 -- A core's step is the only one

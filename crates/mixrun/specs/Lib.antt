@@ -3,6 +3,8 @@ pub mod Moves
 pub mod Steps
 pub mod Schedule
 pub mod Scheduled
+pub mod Drill
+pub mod Drilled
 pub mod AtMoment
 pub mod Ledger
 pub mod Queue

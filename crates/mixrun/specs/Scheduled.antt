@@ -1,5 +1,5 @@
 -- What follows of runs by schedules, each law the contract of a function of src/laws.rt.
-use Rattle.std.specs.Prelude.{◌≡◌, ℕ, ◌≤◌, List, [], ◌∷◌, length}
+use Rattle.std.specs.Prelude.{◌≡◌, ℕ, ◌≤◌, List, length}
 use Rattle.mixrun.specs.declared.actor.Actor.{Actor}
 use Rattle.mixrun.specs.Moment.{Setup, Moment}
 use Rattle.mixrun.specs.Steps.{Steps}

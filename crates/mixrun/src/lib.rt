@@ -4,6 +4,7 @@
 #![tactic(auto)]
 
 mod actor;
+pub mod drills;
 pub mod laws;
 pub mod rows;
 pub mod schedule_rows;
