@@ -134,12 +134,12 @@ history_at_end s m h over idle none = record {
 
 -- At first
 
-replicated : {A : Type 0} (n : ℕ) (x : A) (i : ℕ) (a : A) → slice_get (replicate n x) i ≡ Some a → a ≡ x
+pub replicated : {A : Type 0} (n : ℕ) (x : A) (i : ℕ) (a : A) → slice_get (replicate n x) i ≡ Some a → a ≡ x
 replicated zero x i a e = absurd cc
 replicated (suc n) x zero a e = let same : x ≡ a = cc in sym same
 replicated (suc n) x (suc i) a e = replicated n x i a e
 
-replicate_size : {A : Type 0} (n : ℕ) (x : A) → length (replicate n x) ≡ n
+pub replicate_size : {A : Type 0} (n : ℕ) (x : A) → length (replicate n x) ≡ n
 replicate_size zero x = refl
 replicate_size (suc n) x = ap suc (replicate_size n x)
 

@@ -18,3 +18,9 @@ pub mod SoFarLaws
 pub mod RowLemmas
 pub mod ByteLaws
 pub mod ShownLaws
+pub mod ScheduleSteps
+pub mod ScheduleRuns
+pub mod DrillRuns
+pub mod DrillCourse
+pub mod DrillSteps
+pub mod DrillEnds

@@ -1,6 +1,10 @@
 pub mod Moment
 pub mod Moves
 pub mod Steps
+pub mod Schedule
+pub mod Scheduled
+pub mod Drill
+pub mod Drilled
 pub mod AtMoment
 pub mod Ledger
 pub mod Queue

@@ -4,7 +4,10 @@
 #![tactic(auto)]
 
 mod actor;
+pub mod drills;
 pub mod laws;
 pub mod rows;
+pub mod schedule_rows;
+pub mod schedules;
 
 pub use actor::Actor;

@@ -1,24 +1,24 @@
 -- Nothing shows exactly where moves and looks are one history.
-use Rattle.std.proofs.Common.{◌≡◌, ◌≢◌, ℕ, zero, suc, ◌+◌, ◌-◌, ◌≤◌, ◌<◌, ◌^◌, Bool, true, false, List, [], ◌∷◌, ◌++◌, length, take, map, max, refl, ap, sym, ◌∙◌, subst, arith}
-use Rattle.std.specs.Prelude.{⊤, cond, ◌==◌, nat_lt, nat_le, nat_eq, slice_get, slice_index, Option, Some, None}
+use Rattle.std.proofs.Common.{◌≡◌, ℕ, zero, suc, ◌+◌, ◌≤◌, ◌<◌, ◌^◌, Bool, true, false, List, [], ◌∷◌, length, take, map, max, refl, ap, sym, ◌∙◌, arith}
+use Rattle.std.specs.Prelude.{cond, ◌==◌, nat_lt, nat_eq, slice_get, slice_index, Option, Some, None}
 use Rattle.std.specs.Option.{option_or}
 use Rattle.std.proofs.lemmas.Bool.Decides.{nat_tests}
 use Rattle.prio_budget.specs.declared.look.Look.{Look}
 use Rattle.histbook.specs.declared.look_entry.LookEntry.{LookEntry}
-use Rattle.histbook.specs.Budget.{BudgetMove, granted, freed, total, below, at_stamp, granted_below, freed_below, once_between, Each, EachBelow, IsUsedBefore, IsTrueLook, HasEachStampOnce, FoundTheUsed, StaysWithin}
-use Rattle.histbook.specs.InTurn.{peak_below, peak}
+use Rattle.histbook.specs.Budget.{BudgetMove, granted, freed, total, below, at_stamp, granted_below, freed_below, once_between, Each, IsTrueLook, HasEachStampOnce}
+use Rattle.histbook.specs.InTurn.{peak_below}
 use Rattle.histbook.proofs.BudgetLemmas.{each_of}
 use Rattle.tally.specs.declared.moves.Move.{Move}
 use Rattle.tally.specs.declared.moves.Move.TheVariants.{Grant, Free}
 use Rattle.tally.specs.declared.mismatch.Mismatch.{Mismatch}
 use Rattle.tally.specs.declared.peak.Peak.{Peak}
 use Rattle.tally.specs.Moves.{stamp_of, in_history, history_of, used_before, by_stamp}
-use Rattle.tally.specs.Table.{last_stamp, other_stamp, too_many, other_found, first_look, freed_too_much, passed_limit, row_of, too_late, row_at}
-use Rattle.tally.specs.Replay.{IsOneReplay, IsFirstMismatch, IsPeak, NeverFallsBelowZero}
-use Rattle.tally.specs.Walk.{used_behind, firsts, highest, misplaced, overdrawn, WalkParts, IsClear, MadeAll, shown_by}
+use Rattle.tally.specs.Table.{last_stamp, other_stamp, too_many, other_found, first_look, freed_too_much, passed_limit, too_late, row_at}
+use Rattle.tally.specs.Replay.{IsOneReplay, IsFirstMismatch, IsPeak}
+use Rattle.tally.specs.Walk.{used_behind, firsts, highest, misplaced, WalkParts, IsClear, MadeAll, shown_by}
 use Rattle.tally.proofs.ShownLemmas.{first_look_none}
 use Rattle.tally.proofs.SortLemmas.{Ascends, ascends, sorted_length}
-use Rattle.tally.proofs.PrefixLemmas.{IsUsed, ArePlaced, IsNext, stamp_in, used_at, sums_at, take_total, got_inside, some_inside, sorted_total, before_last}
+use Rattle.tally.proofs.PrefixLemmas.{IsUsed, stamp_in, used_at, sums_at, take_total, got_inside, some_inside, sorted_total, before_last}
 use Rattle.tally.proofs.TableLemmas.{firsts_length, firsts_at, row_past, row_inside}
 use Rattle.tally.proofs.ReplayLemmas.{clear_all, all_agree, next_of, below_at}
 

@@ -1,6 +1,6 @@
 -- A budget's history is one to a replay: without what its asks found no sum changes, and what is used never falls below 0.
-use Rattle.std.proofs.Common.{◌≡◌, ℕ, zero, suc, ◌+◌, ◌-◌, ◌≤◌, ◌<◌, ◌^◌, Bool, true, false, List, [], ◌∷◌, ◌++◌, length, take, map, max, refl, ap, sym, ◌∙◌, subst, arith}
-use Rattle.std.specs.Prelude.{⊤, cond, nat_lt, nat_le, slice_get, Option, Some, None}
+use Rattle.std.proofs.Common.{◌≡◌, ℕ, zero, suc, ◌+◌, ◌-◌, ◌≤◌, ◌<◌, ◌^◌, Bool, true, false, List, [], ◌∷◌, length, map, max, refl, ap, sym, ◌∙◌, subst, arith}
+use Rattle.std.specs.Prelude.{⊤, nat_le, slice_get, Option, Some, None}
 use Rattle.std.proofs.lemmas.List.{take_all}
 use Rattle.std.proofs.lemmas.Bool.Decides.{nat_tests}
 use Rattle.prio_budget.specs.declared.look.Look.{Look}
@@ -10,10 +10,10 @@ use Rattle.histbook.specs.InTurn.{peak_below, peak}
 use Rattle.histbook.proofs.BudgetLemmas.{each_of}
 use Rattle.tally.specs.declared.moves.Move.{Move}
 use Rattle.tally.specs.declared.moves.Move.TheVariants.{Grant, Free}
-use Rattle.tally.specs.Moves.{stamp_of, in_history, history_of, by_stamp}
+use Rattle.tally.specs.Moves.{in_history, history_of, by_stamp}
 use Rattle.tally.specs.Replay.{IsOneReplay, NeverFallsBelowZero}
 use Rattle.tally.specs.Laws.{move_of}
-use Rattle.tally.proofs.SortLemmas.{each_sorted, sorted_length}
+use Rattle.tally.proofs.SortLemmas.{each_sorted}
 use Rattle.tally.proofs.PrefixLemmas.{each_got, some_inside, sorted_total}
 use Rattle.tally.proofs.HistoryLemmas.{history_length, unique_all, sums, more}
 

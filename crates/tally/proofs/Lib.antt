@@ -8,3 +8,4 @@ pub mod HistoryLemmas
 pub mod LawLemmas
 pub mod SumLemmas
 pub mod LineLemmas
+pub mod JournalLemmas

@@ -1,12 +1,10 @@
 -- Sums below a stamp are sums over a front of the moves in order, where each stamp is its place.
-use Rattle.std.proofs.Common.{◌≡◌, ◌≢◌, ℕ, zero, suc, ◌+◌, ◌-◌, ◌≤◌, ◌<◌, Bool, true, false, List, [], ◌∷◌, ◌++◌, length, take, refl, ap, sym, ◌∙◌, subst, arith}
-use Rattle.std.specs.Prelude.{⊤, cond, nat_lt, nat_le, nat_eq, max, slice_get, Option, Some, None}
-use Rattle.std.specs.Option.{option_or}
+use Rattle.std.proofs.Common.{◌≡◌, ◌≢◌, ℕ, zero, suc, ◌+◌, ◌-◌, ◌≤◌, ◌<◌, Bool, true, false, List, [], ◌∷◌, length, take, refl, ap, sym, ◌∙◌, subst, arith}
+use Rattle.std.specs.Prelude.{cond, nat_le, slice_get, Option, Some, None}
 use Rattle.std.proofs.lemmas.Bool.Decides.{nat_tests}
 use Rattle.histbook.specs.Budget.{BudgetMove, granted, freed, total, below, at_stamp, granted_below, freed_below, once_between, Each, EachBelow}
 use Rattle.tally.specs.declared.moves.Move.{Move}
 use Rattle.tally.specs.declared.moves.Move.TheVariants.{Grant, Free}
-use Rattle.tally.specs.declared.mismatch.Mismatch.{Mismatch}
 use Rattle.tally.specs.Moves.{stamp_of, in_history, history_of, used_before, put_move, by_stamp}
 use Rattle.tally.specs.Table.{last_stamp}
 use Rattle.tally.specs.Walk.{used_after, used_from, used_behind, misplaced, overdrawn, IsClear}

@@ -1,23 +1,20 @@
 -- What moves and looks show first is the table's first row, and nothing shows exactly where they are one history.
-use Rattle.std.proofs.Common.{◌≡◌, ◌≢◌, ℕ, zero, suc, ◌+◌, ◌-◌, ◌≤◌, ◌<◌, ◌^◌, ◌⊎◌, Bool, true, false, inl, inr, List, [], ◌∷◌, ◌++◌, length, take, map, max, refl, ap, sym, ◌∙◌, subst, arith}
-use Rattle.std.specs.Prelude.{⊤, cond, ◌==◌, nat_lt, nat_le, nat_eq, slice_get, slice_index, Option, Some, None}
+use Rattle.std.proofs.Common.{◌≡◌, ℕ, zero, suc, ◌≤◌, ◌<◌, ◌⊎◌, Bool, true, false, inl, inr, List, length, refl, ap, sym, ◌∙◌, subst, arith}
+use Rattle.std.specs.Prelude.{cond, nat_lt, nat_le, slice_get, Option, Some, None}
 use Rattle.std.specs.Option.{option_or}
 use Rattle.std.proofs.lemmas.Bool.Decides.{nat_tests}
-use Rattle.prio_budget.specs.declared.look.Look.{Look}
 use Rattle.histbook.specs.declared.look_entry.LookEntry.{LookEntry}
-use Rattle.histbook.specs.Budget.{BudgetMove, granted, freed, total, below, at_stamp, granted_below, freed_below, once_between, Each, EachBelow, IsUsedBefore, IsTrueLook, HasEachStampOnce, FoundTheUsed, StaysWithin}
-use Rattle.histbook.specs.InTurn.{peak_below, peak}
+use Rattle.histbook.specs.Budget.{EachBelow}
 use Rattle.histbook.proofs.BudgetLemmas.{all_below}
 use Rattle.tally.specs.declared.moves.Move.{Move}
-use Rattle.tally.specs.declared.moves.Move.TheVariants.{Grant, Free}
 use Rattle.tally.specs.declared.mismatch.Mismatch.{Mismatch}
-use Rattle.tally.specs.Moves.{stamp_of, in_history, history_of, used_before, by_stamp}
-use Rattle.tally.specs.Table.{last_stamp, other_stamp, too_many, other_found, first_look, freed_too_much, passed_limit, row_of, too_late, row_at}
-use Rattle.tally.specs.Replay.{IsOneReplay, IsFirstMismatch, NeverFallsBelowZero}
-use Rattle.tally.specs.Walk.{used_behind, firsts, highest, misplaced, overdrawn, WalkParts, no_walk, IsClear, HasMade, StopsAt, MadeAll, HasWalked, shown_by, earlier_of, IsLeastShown}
+use Rattle.tally.specs.Moves.{used_before, by_stamp}
+use Rattle.tally.specs.Table.{other_found, first_look, too_late, row_at}
+use Rattle.tally.specs.Replay.{IsFirstMismatch}
+use Rattle.tally.specs.Walk.{used_behind, firsts, misplaced, overdrawn, WalkParts, no_walk, IsClear, HasMade, StopsAt, MadeAll, HasWalked, shown_by, earlier_of, IsLeastShown}
 use Rattle.tally.proofs.SortLemmas.{ascends, sorted_length}
-use Rattle.tally.proofs.PrefixLemmas.{AreClear, IsUsed, ArePlaced, IsNext, clear_placed, evens, used_at, used_zero, none_past, got_inside, sorted_total, before_last, placed}
-use Rattle.tally.proofs.TableLemmas.{row_differs, looks_late, looks_between, looks_inside, row_past, row_overdrawn, row_misplaced, row_clear, row_inside}
+use Rattle.tally.proofs.PrefixLemmas.{AreClear, IsUsed, IsNext, used_at, used_zero, none_past, placed}
+use Rattle.tally.proofs.TableLemmas.{looks_late, looks_between, looks_inside, row_past, row_overdrawn, row_misplaced, row_clear, row_inside}
 
 pub below_at : (P : ℕ → Type 0) (n k : ℕ) → EachBelow P n → k < n → P k
 below_at P zero k each less = absurd (omega arith)

@@ -1,13 +1,13 @@
 -- What looks show first, one look more at a time.
-use Rattle.std.proofs.Common.{◌≡◌, ℕ, ◌≤◌, ◌<◌, Bool, true, false, ◌+◌, List, [], ◌∷◌, ◌++◌, length, take, get_or, refl, ap, sym, ◌∙◌, subst, arith}
-use Rattle.std.specs.Prelude.{cond, ◌==◌, nat_lt, nat_le, slice_index, Option, Some, None}
+use Rattle.std.proofs.Common.{◌≡◌, ℕ, ◌≤◌, ◌<◌, Bool, true, false, ◌+◌, List, [], ◌∷◌, ◌++◌, length, take, get_or, refl, sym, ◌∙◌, subst, arith}
+use Rattle.std.specs.Prelude.{cond, ◌==◌, nat_le, Option, Some, None}
 use Rattle.std.specs.Option.{option_or}
 use Rattle.std.proofs.lemmas.List.{take_more, take_all}
 use Rattle.std.proofs.lemmas.Bool.Decides.{nat_tests}
 use Rattle.histbook.specs.Budget.{Each}
 use Rattle.histbook.specs.declared.look_entry.LookEntry.{LookEntry}
 use Rattle.tally.specs.declared.mismatch.Mismatch.{Mismatch}
-use Rattle.tally.specs.Table.{first_look, other_found, too_late}
+use Rattle.tally.specs.Table.{first_look}
 use Rattle.tally.specs.Walk.{shown_by, earlier_of, IsLeastShown}
 
 -- what is shown stands at the look's stamp

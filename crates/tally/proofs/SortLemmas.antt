@@ -1,5 +1,5 @@
 -- Moves in the order of their stamps: the order that the sort gives is the defined one.
-use Rattle.std.proofs.Common.{◌≡◌, ℕ, zero, suc, ◌+◌, ◌≤◌, ◌<◌, Bool, true, false, List, [], ◌∷◌, ◌++◌, length, get_or, refl, ap, sym, ◌∙◌, subst, arith}
+use Rattle.std.proofs.Common.{◌≡◌, ℕ, suc, ◌≤◌, ◌<◌, Bool, true, false, List, [], ◌∷◌, length, get_or, refl, ap, sym, ◌∙◌, arith}
 use Rattle.std.specs.Prelude.{⊤, cond, nat_lt, nat_le, nat_eq, not, ◌&&◌, filter}
 use Rattle.std.specs.declared.cmp.Ordering.TheVariants.{Less, Equal, Greater}
 use Rattle.std.specs.Ordering.{is_lt, nat_cmp}
@@ -10,7 +10,7 @@ use Rattle.std.proofs.lemmas.Fn.{always_returns_same}
 use Rattle.std.specs.List.Sorted.{ties, IsStableByKey, IsSortedByKey, IsNonDecreasingBy}
 use Rattle.std.proofs.lemmas.List.Sorted.{IsNonDecreasingBy-from_sort}
 use Rattle.std.proofs.lemmas.Bool.Decides.{nat_tests}
-use Rattle.histbook.specs.Budget.{Each, total}
+use Rattle.histbook.specs.Budget.{Each}
 use Rattle.histbook.proofs.BudgetLemmas.{each_of}
 use Rattle.tally.specs.declared.moves.Move.{Move}
 use Rattle.tally.specs.Moves.{stamp_of, put_move, by_stamp}

@@ -1,5 +1,5 @@
 -- The sums over directions, one direction more at a time.
-use Rattle.std.proofs.Common.{◌≡◌, ℕ, zero, suc, ◌+◌, ◌≤◌, ◌<◌, List, [], ◌∷◌, length, take, get_or, ◌^◌, ap, ◌∙◌, arith, add-one}
+use Rattle.std.proofs.Common.{◌≡◌, ℕ, zero, suc, ◌+◌, ◌≤◌, ◌<◌, List, [], ◌∷◌, length, take, get_or, ◌^◌, arith, add-one}
 use Rattle.convo.specs.declared.dir_total.DirTotal.{DirTotal}
 use Rattle.streamdefs.specs.Lists.{total}
 use Rattle.tally.specs.Totals.{payload_of}

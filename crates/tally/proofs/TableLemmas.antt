@@ -1,17 +1,17 @@
 -- The rows of the table, by what moves and looks show.
-use Rattle.std.proofs.Common.{◌≡◌, ◌≢◌, ℕ, zero, suc, ◌+◌, ◌≤◌, ◌<◌, Bool, true, false, List, [], ◌∷◌, ◌++◌, length, get_or, refl, ap, sym, ◌∙◌, subst, arith}
-use Rattle.std.specs.Prelude.{cond, ◌==◌, nat_lt, nat_le, slice_get, slice_index, Option, Some, None}
+use Rattle.std.proofs.Common.{◌≡◌, ◌≢◌, ℕ, zero, suc, ◌≤◌, ◌<◌, Bool, true, false, List, [], ◌∷◌, ◌++◌, length, refl, ap, ◌∙◌, arith}
+use Rattle.std.specs.Prelude.{cond, ◌==◌, nat_lt, slice_get, slice_index, Option, Some, None}
 use Rattle.std.specs.Option.{option_or}
 use Rattle.std.proofs.lemmas.List.{get_or_append_left, get_or_push, length_push}
 use Rattle.std.proofs.lemmas.Bool.Decides.{nat_tests}
 use Rattle.histbook.specs.declared.look_entry.LookEntry.{LookEntry}
-use Rattle.histbook.specs.Budget.{Each, EachBelow}
+use Rattle.histbook.specs.Budget.{Each}
 use Rattle.tally.specs.declared.moves.Move.{Move}
 use Rattle.tally.specs.declared.moves.Move.TheVariants.{Grant, Free}
 use Rattle.tally.specs.declared.mismatch.Mismatch.{Mismatch}
-use Rattle.tally.specs.Moves.{stamp_of, used_before, by_stamp}
-use Rattle.tally.specs.Table.{last_stamp, other_stamp, too_many, other_found, first_look, freed_too_much, passed_limit, row_of, too_late, row_at}
-use Rattle.tally.specs.Walk.{firsts, misplaced, overdrawn, shown_by, earlier_of, IsLeastShown}
+use Rattle.tally.specs.Moves.{used_before, by_stamp}
+use Rattle.tally.specs.Table.{other_stamp, too_many, other_found, first_look, freed_too_much, passed_limit, row_of, too_late, row_at}
+use Rattle.tally.specs.Walk.{firsts, misplaced, overdrawn, shown_by}
 use Rattle.tally.proofs.ShownLemmas.{first_look_same, first_look_none}
 use Rattle.tally.proofs.SortLemmas.{sorted_length}
 use Rattle.tally.proofs.PrefixLemmas.{got_inside}

@@ -1,11 +1,10 @@
 -- Moves made again, one more at a time.
-use Rattle.std.proofs.Common.{◌≡◌, ℕ, zero, suc, ◌+◌, ◌<◌, true, false, inl, inr, List, [], ◌∷◌, ◌++◌, length, get_or, refl, ap, sym, ◌∙◌, subst, arith}
+use Rattle.std.proofs.Common.{◌≡◌, ℕ, zero, suc, ◌<◌, true, false, inl, inr, List, [], ◌∷◌, ◌++◌, length, get_or, refl, ap, sym, ◌∙◌, subst, arith}
 use Rattle.std.specs.Prelude.{max, slice_get, is_some, Option, Some, None}
-use Rattle.histbook.specs.Budget.{EachBelow}
 use Rattle.tally.specs.declared.moves.Move.{Move}
 use Rattle.tally.specs.declared.moves.Move.TheVariants.{Grant, Free}
 use Rattle.tally.specs.declared.mismatch.Mismatch.{Mismatch}
-use Rattle.tally.specs.Walk.{used_after, used_from, used_behind, firsts, highest, misplaced, overdrawn, WalkParts, made, compared, IsStep, IsClear, HasMade, StopsAt, MadeAll, HasWalked}
+use Rattle.tally.specs.Walk.{used_after, used_from, used_behind, firsts, misplaced, overdrawn, WalkParts, compared, IsStep, HasMade, StopsAt, MadeAll, HasWalked}
 
 -- the move at a place
 pub got : {A : Type 0} (xs : List A) (n : ℕ) (d : A) → n < length xs → slice_get xs n ≡ Some (get_or xs n d)

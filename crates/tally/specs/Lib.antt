@@ -5,3 +5,4 @@ pub mod Walk
 pub mod Rows
 pub mod Totals
 pub mod Laws
+pub mod Journal

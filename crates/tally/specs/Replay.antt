@@ -1,5 +1,5 @@
 -- What a replay of moves and looks answers.
-use Rattle.std.specs.Prelude.{◌≡◌, ◌≢◌, ⊤, ℕ, ◌+◌, ◌^◌, ◌<◌, ◌≤◌, List, length, map, Option, Some, None, Result, Ok, Err}
+use Rattle.std.specs.Prelude.{◌≡◌, ◌≢◌, ⊤, ℕ, ◌^◌, ◌<◌, ◌≤◌, List, length, map, Some, None, Result, Ok, Err}
 use Rattle.histbook.specs.declared.look_entry.LookEntry.{LookEntry}
 use Rattle.histbook.specs.Budget.{EachBelow, HasEachStampOnce, FoundTheUsed, StaysWithin, granted_below, freed_below}
 use Rattle.histbook.specs.InTurn.{peak}

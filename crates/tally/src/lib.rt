@@ -6,6 +6,7 @@
 #![tactic(auto)]
 
 mod dir_totals;
+mod journal;
 pub mod laws;
 mod lines;
 mod look_list;
@@ -27,6 +28,7 @@ mod totals;
 mod walk;
 
 pub use dir_totals::DirTotals;
+pub use journal::{looks_of, moves_of, refused_in, replay_journal};
 pub use look_list::LookList;
 pub use mismatch::Mismatch;
 pub use move_list::MoveList;

@@ -5,6 +5,9 @@ ghost use Rattle.tally.specs.Moves.{by_stamp, used_before, history_of};
 ghost use Rattle.tally.specs.Table.{at, row_at, too_many};
 ghost use Rattle.tally.specs.Rows.{look, four, their_looks, of_two_books, twice, missing, overdrawn};
 ghost use Rattle.histbook.specs.InTurn.{peak};
+ghost use Rattle.histbook.specs.Rows.{four_datagrams};
+ghost use Rattle.streamdefs.specs.Totals.{refused};
+ghost use Rattle.tally.specs.Journal.{IsPeakOf, asks_in, moves_in};
 
 /// Moves by ascending stamp; of equal ones the first in the list stands first.
 pub fn moves_stand_by_their_stamps()
@@ -53,4 +56,13 @@ pub fn the_first_row_counts()
     ensures stamp { row_at 4096 missing (look false 1 1 7 ∷ []) 1 ≡ at 1 1 2 }
     ensures free { row_at 4096 overdrawn (look false 1 1 7 ∷ []) 1 ≡ at 1 7 4 }
     ensures grant { row_at 3999 four (look false 1 2 7 ∷ []) 2 ≡ at 2 7 2800 }
+{}
+
+/// What a replay takes of four datagrams, of which the third was refused: no move of the refused look, and each release where
+/// its answer stands.
+pub fn a_journal_has_moves_and_looks()
+    ensures moves { moves_in four_datagrams ≡ Grant 0 1400 ∷ Grant 1 1400 ∷ Grant 2 1200 ∷ Free 3 1400 ∷ Free 4 1400 ∷ Free 5 1200 ∷ [] }
+    ensures looks { asks_in four_datagrams ≡ look true 1400 0 0 ∷ look true 1400 1 1400 ∷ look false 1400 2 2800 ∷ look true 1200 2 2800 ∷ [] }
+    ensures refused { refused (asks_in four_datagrams) ≡ 1 }
+    ensures peak { IsPeakOf four_datagrams (record { stamps = 6; peak = 4000 }) }
 {}

@@ -4,13 +4,13 @@ ghost use Rattle.tally.specs.Totals.{AddUp};
 use crate::Move::{Free, Grant};
 use crate::{
     DirTotals, LookList, Memory, Move, MoveList, Peak, ReplayError, Skips, Totals, budget_replay,
-    put_opening, put_totals,
+    looks_of, moves_of, put_opening, put_totals, refused_in, replay_journal,
 };
 use convo::DirTotal;
-use evring::Way;
+use evring::{Frees, Way};
 use flowdir::Counts;
-use histbook::LookEntry;
-use prio_budget::Look;
+use histbook::{Books, CoreEntry, Entry, EntryList, Journal, LookEntry, Looks, Served};
+use prio_budget::{Free as Release, Look};
 use std::alloc::{AllocError, Global};
 
 /// Four datagrams on two cores, one book behind the other.
@@ -250,5 +250,61 @@ fn the_lines_of_a_report_are_appended(rt: HostRuntime) -> Result<(), Memory> {
     put_opening(4, 2, &mut out)?;
     put_totals(&totals(rt.alloc())?, &mut out)?;
     assert_eq!(rt; out.as_slice(), TEXT.as_bytes());
+    Ok(())
+}
+
+const GRANTED: LookEntry = LookEntry {
+    asked: 4,
+    granted: true,
+    look: Look { stamp: 0, found: 0 },
+};
+
+const ITS_RELEASE: Release = Release { stamp: 1, bytes: 4 };
+
+/// A journal of one entry with these looks and releases.
+fn journal_of(
+    alloc: Global,
+    looks: &[LookEntry],
+    frees: &[Release],
+) -> Result<Journal, AllocError> {
+    let looks = Looks::of(Vec::from_slice(alloc, looks)?);
+    let frees = Frees::of(Vec::from_slice(alloc, frees)?);
+    let entry = Entry::Time {
+        at: 5,
+        looks,
+        frees,
+    };
+    let mut book = Vec::new(alloc);
+    book.push(CoreEntry { conv: 1, entry })?;
+    let mut cores = Vec::new(alloc);
+    cores.push(EntryList::of(book))?;
+    Ok(Journal {
+        cores: Books::of(cores),
+        workers: Served::of(Vec::new(alloc)),
+    })
+}
+
+/// How many moves, looks and refused looks it has.
+fn taken_of(alloc: Global, journal: &Journal) -> Result<(usize, usize, u64), Memory> {
+    let moves = moves_of(alloc, journal)?;
+    let looks = looks_of(alloc, journal)?;
+    let refused = refused_in(&looks);
+    Ok((moves.as_slice().len(), looks.as_slice().len(), refused))
+}
+
+/// Its number of stamps and its peak.
+fn peak_of(alloc: Global, journal: &Journal) -> (u32, u32) {
+    match replay_journal(alloc, journal, 4) {
+        Ok(peak) => (peak.stamps, peak.peak),
+        Err(_) => (0, 0),
+    }
+}
+
+#[test]
+fn a_journal_is_replayed(rt: HostRuntime) -> Result<(), Memory> {
+    let journal = journal_of(rt.alloc(), &[GRANTED, REFUSED], &[ITS_RELEASE])?;
+    assert_eq!(rt; taken_of(rt.alloc(), &journal)?, (2, 2, 1));
+    let journal = journal_of(rt.alloc(), &[GRANTED], &[ITS_RELEASE])?;
+    assert_eq!(rt; peak_of(rt.alloc(), &journal), (2, 4));
     Ok(())
 }

@@ -1,4 +1,4 @@
-use Rattle.std.proofs.Common.{◌≡◌, ap, sym, ◌∙◌, refl, rules}
+use Rattle.std.proofs.Common.{ap, sym, refl, rules}
 use Rattle.tally.specs.Walk.{WalkParts}
 use Rattle.tally.proofs.TableLemmas.{row_differs}
 use Rattle.tally.proofs.ReplayLemmas.{made_first, replayed_is, told, all_made}

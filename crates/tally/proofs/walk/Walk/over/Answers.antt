@@ -1,5 +1,5 @@
-use Rattle.std.proofs.Common.{add-one, arith, rules}
-use Rattle.tally.proofs.WalkLemmas.{got, step_on, step_stop, made_all}
+use Rattle.std.proofs.Common.{add-one, arith}
+use Rattle.tally.proofs.WalkLemmas.{got, step_on, step_stop}
 use Rattle.tally.proofs.walk.Walk.over.Goals as goal
 
 pub loop-next-preserved : goal.loop-next-preserved

@@ -1,0 +1,22 @@
+//! What a schedule makes of a run, each law as the contract of a function with an empty body.
+ghost use Rattle.mixrun.specs.Scheduled.{IdleHasNoStep, ActsByAStep, ActsInOneWay, SchedulesDetermine, SeedsDetermine, RunsReach, SeedsReach, StepsLeadOn};
+
+/// An actor that is idle has no step of the machine; another one has the one step that its order gives it.
+pub fn each_actor_has_its_step()
+    ensures idle { IdleHasNoStep }
+    ensures step { ActsByAStep }
+    ensures one { ActsInOneWay }
+{}
+
+/// A moment determines what a schedule, or a seed, makes of it.
+pub fn schedules_determine_runs()
+    ensures actors { SchedulesDetermine }
+    ensures seed { SeedsDetermine }
+{}
+
+/// A run by a schedule, or by a seed, is so many steps of the machine; so what holds at every moment holds behind it.
+pub fn runs_are_steps()
+    ensures actors { RunsReach }
+    ensures seed { SeedsReach }
+    ensures holds { StepsLeadOn }
+{}
