@@ -4,3 +4,9 @@ pub mod Orderly
 pub mod Wanted
 pub mod Laws
 pub mod Rows
+pub mod Held
+pub mod Moments
+pub mod Standing
+pub mod Turns
+pub mod Verdicts
+pub mod Falling

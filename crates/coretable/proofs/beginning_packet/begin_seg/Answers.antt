@@ -1,0 +1,25 @@
+use Rattle.flowdir.specs.Boundary.{charge_by}
+use Rattle.coretable.specs.Held.{StandsFor}
+use Rattle.std.proofs.Common.{[], ◌≡◌, ◌∙◌, subst, sym, cond}
+use Rattle.streamdefs.specs.Convo.Act.{Seg}
+use Rattle.histbook.specs.declared.entry.Entry.TheVariants as E
+use Rattle.convo.specs.Seen.{packet_of}
+use Rattle.convo.specs.Talk.{IsWantOf}
+use Rattle.coretable.specs.Course.{begun}
+use Rattle.coretable.specs.Standing.{beside, entry_for}
+use Rattle.coretable.proofs.Soundness.{at_rest}
+use Rattle.coretable.proofs.BeginLemmas.{ready_seg}
+use Rattle.coretable.proofs.beginning_packet.begin_seg.Goals as goal
+
+pub returns-in-Ok-take : goal.returns-in-Ok-take
+returns-in-Ok-take g c t last handler m o p set s e k at j s' =
+    let a = c.active_of-active.ensures in
+    let same : c.in-Ok.packet ≡ p = c.in-Ok.ensures.packet p j in
+    let ready = ready_seg (StandsFor (charge_by g.C.Charge.amount g.C.Charge.stamp) t) (charge_by g.C.Charge.amount g.C.Charge.stamp) t m c.args.place o p c.args.desk.now c.take_packet.new.desk c.take_out.new.desk c.active_of-active.result
+    c.in-Ok-take_out.taken.number c.in-Ok-take_out.taken.clock c.is_ended.result c.in-Ok-take_out.taken.talk c.in-Ok-take.want (at_rest t last handler m s e).rises e k at c.take_packet.ensures.rest c.in-Ok-take_out.ensures.taken c.take_out.ensures.slots c.take_out.ensures.rest
+    (λ owed st. c.is_ended.ensures t (beside o.convo owed) st)
+    a.0 a.1 (a.2 ∙ c.clock_with-clock.ensures ∙ (λ i. cond c.is_ended.result c.in-Ok-take_out.taken.clock (same i).now)) ((λ i. entry_for (a.3 i) (a.4 i) (a.5 i)) ∙ (λ i. E.Seg (same i).number (same i).now [] []))
+    (λ owed st. subst (λ q. IsWantOf (charge_by g.C.Charge.amount g.C.Charge.stamp) (StandsFor (charge_by g.C.Charge.amount g.C.Charge.stamp) t c.active_of-active.result.talk) t (beside o.convo owed) (Seg (packet_of q) q.now [] []) 0 c.in-Ok-take.want) same
+    (subst (λ y. IsWantOf (charge_by g.C.Charge.amount g.C.Charge.stamp) (StandsFor (charge_by g.C.Charge.amount g.C.Charge.stamp) t y) t (beside o.convo owed) (Seg (packet_of c.in-Ok.packet) c.in-Ok.packet.now [] []) 0 c.in-Ok-take.want) (sym a.6)
+    (c.in-Ok-take.ensures.turn t (beside o.convo owed) set st))) in
+    c.settle.ensures t last handler (begun m (record { conv = o.id; act = Seg (packet_of p) p.now [] [] })) ready.u ready.owed set s' ready.keeps ready.active ready.fresh ready.turn
