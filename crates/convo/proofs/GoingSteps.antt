@@ -1,8 +1,6 @@
 -- Charges of chunks, as lists and as sums.
 use Rattle.evring.specs.Charges.{charges_of as charges_in, charges_of_all}
-use Rattle.std.proofs.Common.{◌≡◌, refl, ◌∙◌, ap, ℕ, ◌+◌, List, [], ◌∷◌, ◌++◌, map, length, Option, Some, None, arith}
-use Rattle.std.specs.Prelude.{option_to_list}
-use Rattle.flowdir.specs.Left.{count_of}
+use Rattle.std.proofs.Common.{◌≡◌, refl, ◌∙◌, ap, ℕ, ◌+◌, List, [], ◌∷◌, ◌++◌, map, arith}
 use Rattle.chunkpart.specs.ChunkParts.{ChunkParts, parts_of}
 use Rattle.streamdefs.specs.Reorder.{Charge}
 use Rattle.streamdefs.specs.Convo.{charges_of}
@@ -43,8 +41,3 @@ charges_all paid (chunk ∷ chunks) =
     map_append paid (charges_in chunk) (charges_of_all chunks)
     ∙ ap (λ l. l ++ map paid (charges_of_all chunks)) (map_parts paid (parts_of chunk))
     ∙ ap (λ l. map (λ part. paid part.1) (parts_of chunk) ++ l) (charges_all paid chunks)
-
--- one charge less is left
-pub next_left : {C : Type 0} (taken : Option C) (before after : List C) → before ≡ option_to_list taken ++ after → length after + count_of taken ≡ length before
-next_left None before after e = let n = ap length e in omega arith
-next_left (Some c) before after e = let n = ap length e in omega arith

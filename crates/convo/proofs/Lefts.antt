@@ -1,25 +1,21 @@
 -- What is left behind a step of a direction.
-use Rattle.std.proofs.Common.{◌≡◌, refl, sym, ◌∙◌, ap, ℕ, ◌+◌, ◌*◌, ◌≤◌, Bool, true, false, not, cond, List, [], ◌∷◌, ◌++◌, length, length-append, Option, Some, None, arith}
+use Rattle.std.proofs.Common.{◌≡◌, refl, sym, ◌∙◌, ap, ℕ, ◌+◌, ◌*◌, ◌≤◌, Bool, true, false, not, cond, Option, Some, None, arith}
 use Rattle.std.specs.Prelude.{nat_le}
-use Rattle.chunkpart.specs.ChunkParts.{ChunkParts}
-use Rattle.evring.specs.Charges.{charges_of, charges_of_all}
 use Rattle.evring.specs.declared.reason.Reason.{Reason}
 use Rattle.evring.specs.declared.way.Way.{Way}
 use Rattle.evring.specs.declared.way.Way.TheVariants.{Fore, Back}
 use Rattle.flowdir.specs.Kept.{Kept as DirKept}
-use Rattle.flowdir.specs.Left.{count_of}
 use Rattle.flowdir.specs.declared.counts.Counts.{Counts}
 use Rattle.flowdir.specs.declared.step.Step.{Step}
 use Rattle.flowdir.specs.declared.step.Step.TheVariants.{Ask, Free, Done}
-use Rattle.convo.specs.Directions.{DirAdds, DirFalls, DirLowers, dir_due, dir_grants, due_now, if_done}
-use Rattle.convo.specs.Going.{charges_going}
-use Rattle.convo.specs.Left.{Adds, Gives, Lowers, due_at, grants_left, stage_work, work_left, work_of_half}
+use Rattle.convo.specs.Directions.{DirAdds, DirFalls, DirLowers, dir_due, due_now, if_done}
+use Rattle.convo.specs.Left.{Adds, Gives, Lowers, Pays, due_at, grants_left, price_of, stage_work, work_left}
 use Rattle.convo.specs.Standing.{finished_segment, half_of, least_by, with_counts, with_half}
 use Rattle.convo.specs.declared.going.Going.{Going}
-use Rattle.convo.specs.declared.half.Half.{Half}
 use Rattle.convo.specs.declared.stage.Stage.{Stage}
 use Rattle.convo.specs.declared.stage.Stage.TheVariants as at
 use Rattle.convo.specs.declared.talk.Convo.{Convo}
+use Rattle.convo.specs.declared.want.Want.{Want}
 use Rattle.convo.proofs.DirSteps.{due_count}
 
 pub adds_fore : {C : Type 0} (grants work more : ℕ) (x : Convo C) (dir : DirKept C) → more ≡ 8 * work → DirAdds grants work x.fore.dir dir → Adds grants more x (record x { fore = record x.fore { dir = dir } })
@@ -46,22 +42,9 @@ lowers_back granted x dir a =
     let q = a.work_less in
     record { grants_less = omega arith; work_less = omega arith }
 
--- one thing after the other
-pub lowers_adds : {C : Type 0} (granted : Option C) (x y z : Convo C) → Lowers granted x y → Adds 0 0 y z → Lowers granted x z
-lowers_adds granted x y z l a =
-    let p = l.grants_less in
-    let q = l.work_less in
-    let r = a.grants_most in
-    let s = a.work_most in
-    record { grants_less = omega arith; work_less = omega arith }
-
-pub yes_most : (b : Bool) → cond b 1 0 ≤ 1
-yes_most true = omega arith
-yes_most false = omega arith
-
-pub count_most : {A : Type 0} (o : Option A) → count_of o ≤ 1
-count_most None = omega arith
-count_most (Some x) = omega arith
+opens_most : (b : Bool) → cond b 3 0 ≤ 3
+opens_most true = omega arith
+opens_most false = omega arith
 
 -- counts are no work
 counted_work : {C : Type 0} (way : Way) (counts : Counts) (x : Convo C) → work_left (with_counts way counts x) ≡ work_left x
@@ -76,17 +59,17 @@ counted_stage : {C : Type 0} (way : Way) (counts : Counts) (x : Convo C) → (wi
 counted_stage Fore counts x = refl
 counted_stage Back counts x = refl
 
-finished_left : {C : Type 0} (owed : Option (Reason × ℕ)) (now : ℕ) (x : Convo C) → stage_work x.stage ≡ 3 → Adds 0 0 x (finished_segment owed now x)
+finished_left : {C : Type 0} (owed : Option (Reason × ℕ)) (now : ℕ) (x : Convo C) → stage_work x.stage ≡ 4 → Adds 0 0 x (finished_segment owed now x)
 finished_left owed now x e =
-    let n = yes_most (not x.begun) in
+    let n = opens_most (not x.begun) in
     record { grants_most = omega arith; work_most = omega arith }
 
-pub segment_left : {C : Type 0} (way : Way) (now : ℕ) (reset : Bool) (counts : Counts) (x x1 x2 y : Convo C) → x.stage ≡ at.Segment way now reset → x1 ≡ with_counts way counts x → x2 ≡ finished_segment x2.owed now x1
-    → Lowers {C = C} None x2 y → Adds 0 0 x y
-segment_left way now reset counts x x1 x2 y st e1 e2 l =
+pub segment_left : {C : Type 0} (way : Way) (now : ℕ) (reset : Bool) (counts : Counts) (x x1 x2 y : Convo C) (out : Want C) → x.stage ≡ at.Segment way now reset → x1 ≡ with_counts way counts x → x2 ≡ finished_segment x2.owed now x1
+    → Pays {C = C} None 0 0 out x2 y → Pays {C = C} None 0 1 out x y
+segment_left way now reset counts x x1 x2 y out st e1 e2 l =
     let a = counted_work way counts x in
     let b = counted_grants way counts x in
-    let s : stage_work x1.stage ≡ 3 = ap (λ x. stage_work x.stage) e1 ∙ ap stage_work (counted_stage way counts x) ∙ ap stage_work st in
+    let s : stage_work x1.stage ≡ 4 = ap (λ x. stage_work x.stage) e1 ∙ ap stage_work (counted_stage way counts x) ∙ ap stage_work st in
     let f = finished_left x2.owed now x1 s in
     let w1 = ap work_left e1 in
     let g1 = ap grants_left e1 in
@@ -94,8 +77,8 @@ segment_left way now reset counts x x1 x2 y st e1 e2 l =
     let g2 = ap grants_left e2 in
     let p = f.grants_most in
     let q = f.work_most in
-    let r = l.grants_less in
-    let t = l.work_less in
+    let r = l.grants_most in
+    let t = l.work_most in
     record { grants_most = omega arith; work_most = omega arith }
 
 -- what is due at a moment is due in one direction
@@ -114,53 +97,43 @@ done_count (Ask bytes) f b h k = h
 done_count (Free charge) f b h k = h
 done_count (Done counts) f b h k = k
 
-pub time_left : {C : Type 0} (hole flush moment : ℕ) (stage : Stage) (x x1 y : Convo C) (step : Step C) → stage_work stage ≡ 3
+-- what is paid at a moment, and how much more is paid where it is due
+pub record PaysAt {C : Type 0} (hole flush moment : ℕ) (want : Want C) (x y : Convo C) : Type 0 where
+  pub left : Pays {C = C} None 0 2 want x y
+  pub due : due_at hole flush x ≡ Some moment → Pays {C = C} None 0 0 want x y
+  pub less : due_at hole flush x ≡ Some moment → Lowers {C = C} None x y
+
+pub time_left : {C : Type 0} (hole flush moment : ℕ) (stage : Stage) (x x1 y : Convo C) (step : Step C) (out : Want C) → stage_work stage ≡ 1
     → x1 ≡ record x { fore = record x.fore { dir = x1.fore.dir }; stage = stage } → DirFalls hole flush moment x.fore.dir x1.fore.dir step
-    → grants_left y ≤ grants_left x1 → work_left y + 8 * if_done step (due_now moment (dir_due hole flush x1.back.dir)) ≤ work_left x1
-    → Adds 0 3 x y × (due_at hole flush x ≡ Some moment → Lowers {C = C} None x y)
-time_left {C = C} hole flush moment stage x x1 y step st e f g w =
+    → grants_left y ≤ grants_left x1 → work_left y + price_of out + 8 * if_done step (due_now moment (dir_due hole flush x1.back.dir)) ≤ work_left x1 + 1
+    → PaysAt hole flush moment out x y
+time_left {C = C} hole flush moment stage x x1 y step out st e f g w =
     let a = ap work_left e in
     let b = ap grants_left e in
     let p = f.grants_most in
     let q = f.work_most in
     let same : if_done step (due_now moment (dir_due hole flush x1.back.dir)) ≡ if_done step (due_now moment (dir_due hole flush x.back.dir)) =
-    ap (λ x. if_done step (due_now moment (dir_due hole flush x.back.dir))) e in (
-      record { grants_most = omega arith; work_most = omega arith },
-      λ due.
-          let n = done_count step (due_now moment (dir_due hole flush x.fore.dir)) (due_now moment (dir_due hole flush x.back.dir)) f.busy (least_now moment (dir_due hole flush x.fore.dir) (dir_due hole flush x.back.dir) due) in
-          record { grants_less = omega arith; work_less = omega arith },
-    )
+    ap (λ x. if_done step (due_now moment (dir_due hole flush x.back.dir))) e in
+    let count : due_at hole flush x ≡ Some moment → 1 ≤ due_now moment (dir_due hole flush x.fore.dir) + if_done step (due_now moment (dir_due hole flush x.back.dir)) = λ due.
+    done_count step (due_now moment (dir_due hole flush x.fore.dir)) (due_now moment (dir_due hole flush x.back.dir)) f.busy (least_now moment (dir_due hole flush x.fore.dir) (dir_due hole flush x.back.dir) due) in
+    record {
+      left = record { grants_most = omega arith; work_most = omega arith };
+      due = λ is. let n = count is in record { grants_most = omega arith; work_most = omega arith };
+      less = λ is. let n = count is in record { grants_less = omega arith; work_less = omega arith };
+    }
 
 -- what is kept in a direction is left to go back
-pub leave_left : {C : Type 0} (way : Way) (given : ℕ) (going : Going C) (stage : Stage) (x y : Convo C) → charges_going x.going ≡ [] → length (charges_going going) ≡ given
-    → y ≡ with_half way (half_of way y) x → Gives given (half_of way x) (half_of way y)
+pub leave_left : {C : Type 0} (way : Way) (going : Going C) (stage : Stage) (x y : Convo C) → y ≡ with_half way (half_of way y) x → Gives 0 (half_of way x) (half_of way y)
     → (grants_left (record y { going = going; stage = stage }) ≤ grants_left x) × (work_left (record y { going = going; stage = stage }) + stage_work x.stage ≤ work_left x + stage_work stage)
-leave_left Fore given going stage x y e n s g =
+leave_left Fore going stage x y s g =
     let a = ap grants_left s in
     let b = ap (λ y. work_left (record y { going = going; stage = stage })) s in
     let p = g.grants_most in
     let q = g.work_most in
-    let l = ap length e in
     (omega arith, omega arith)
-leave_left Back given going stage x y e n s g =
+leave_left Back going stage x y s g =
     let a = ap grants_left s in
     let b = ap (λ y. work_left (record y { going = going; stage = stage })) s in
     let p = g.grants_most in
     let q = g.work_most in
-    let l = ap length e in
     (omega arith, omega arith)
-
--- kept chunks
-pub charges_behind : {C : Type 0} (xs ys : List (ChunkParts C)) → length (charges_of_all (xs ++ ys)) ≡ length (charges_of_all xs) + length (charges_of_all ys)
-charges_behind [] ys = omega arith
-charges_behind (x ∷ xs) ys =
-    let n = charges_behind xs ys in
-    let a = length-append (charges_of x) (charges_of_all xs) in
-    let b = length-append (charges_of x) (charges_of_all (xs ++ ys)) in
-    omega arith
-
-pub keeps_fore : {C : Type 0} (x : Convo C) (h : Half C) (more : ℕ) → dir_grants h.dir ≡ dir_grants x.fore.dir → work_of_half h ≡ work_of_half x.fore + more → Adds 0 more x (record x { fore = h })
-keeps_fore x h more a b = record { grants_most = omega arith; work_most = omega arith }
-
-pub keeps_back : {C : Type 0} (x : Convo C) (h : Half C) (more : ℕ) → dir_grants h.dir ≡ dir_grants x.back.dir → work_of_half h ≡ work_of_half x.back + more → Adds 0 more x (record x { back = h })
-keeps_back x h more a b = record { grants_most = omega arith; work_most = omega arith }

@@ -8,7 +8,7 @@ ghost use Rattle.streamdefs.specs.Convo.{Event as EventMade, answered_event, giv
 ghost use Rattle.streamdefs.specs.Convo.Act.{Answer as AnswerAct};
 ghost use Rattle.flowdir.specs.Boundary.{charge_by};
 ghost use Rattle.convo.specs.Weights.{weight_of_chunks, weight_of_want};
-ghost use Rattle.convo.specs.Left.{Adds, Lowers, work_of_half};
+ghost use Rattle.convo.specs.Left.{Adds, Pays, work_of_half};
 ghost use Rattle.convo.specs.Going.{charges_going};
 ghost use Rattle.convo.specs.Halves.{weight_of_half};
 ghost use Rattle.convo.specs.Talk.{Talk, IsAnswerTo, IsWantOf, asked_in, talk_after};
@@ -27,10 +27,10 @@ use std::alloc::Global;
 
 impl<C: Charge> Half<C> {
     /// Keeps these chunks behind those that are kept. For want of memory they come back.
-    #[tactic(auto, using(crate::proofs::Weighing::weight_behind, crate::proofs::Lefts::charges_behind))]
+    #[tactic(auto, using(crate::proofs::Weighing::weight_behind))]
     pub(crate) fn keep(&mut self, more: Kept<C>) -> Result<(), Kept<C>>
         ensures weight { OnOk result ((w : C → ℕ) → weight_of_half w self.new ≡ weight_of_half w self.old + weight_of_chunks w more) }
-        ensures left { OnOk result (work_of_half self.new ≡ work_of_half self.old + length (charges_of_all more)) }
+        ensures left { OnOk result (work_of_half self.new ≡ work_of_half self.old) }
         ensures ok { OnOk result (self.new ≡ record self.old { kept = self.old.kept ++ more }) }
         ensures err { IfErr result (λ back. (back ≡ more) × (self.new ≡ self.old)) }
     {
@@ -75,7 +75,7 @@ impl<C: Charge> Convo<C> {
     /// Keeps chunks in a direction.
     fn keep_way(&mut self, way: Way, more: Kept<C>) -> Result<(), Kept<C>>
         ensures weight { OnOk result ((w : C → ℕ) → weight_of_convo w self.new ≡ weight_of_convo w self.old + weight_of_chunks w more) }
-        ensures left { OnOk result (Adds 0 (length (charges_of_all more)) self.old self.new) }
+        ensures left { OnOk result (Adds 0 0 self.old self.new) }
         ensures ok { OnOk result (self.new ≡ with_half way (record (half_of way self.old) { kept = (half_of way self.old).kept ++ more }) self.old) }
         ensures err { IfErr result (λ back. (back ≡ more) × (self.new ≡ self.old)) }
     {
@@ -96,7 +96,7 @@ impl<C: Charge> Convo<C> {
         ensures idle { IsRest result → charges_going self.new.going ≡ [] }
         ensures within { (limit : ℕ) → IsAskWithin limit result }
         ensures last { (self.new.fore.dir.last ≡ self.old.fore.dir.last) × (self.new.back.dir.last ≡ self.old.back.dir.last) }
-        ensures left { Lowers {C = C} None self.old self.new }
+        ensures left { Pays {C = C} None 0 0 result self.old self.new }
         ensures weight { (w : C → ℕ) → weight_of_convo w self.new + weight_of_want w result ≡ weight_of_convo w self.old }
     {
         if let Some(charge) = self.going.next() {
@@ -117,7 +117,7 @@ impl<C: Charge> Convo<C> {
         ensures idle { IsRest result → charges_going self.new.going ≡ [] }
         ensures within { (limit : ℕ) → IsAskWithin limit result }
         ensures last { (self.new.fore.dir.last ≡ self.old.fore.dir.last) × (self.new.back.dir.last ≡ self.old.back.dir.last) }
-        ensures left { Adds 0 (length (charges_of_all kept) + 1) self.old self.new }
+        ensures left { Pays {C = C} None 0 1 result self.old self.new }
         ensures weight { (w : C → ℕ) → weight_of_convo w self.new + weight_of_want w result ≡ weight_of_convo w self.old + weight_of_chunks w kept }
     {
         self.going = Going::of(kept);
@@ -133,7 +133,7 @@ impl<C: Charge> Convo<C> {
         ensures idle { IfOk result (λ want. IsRest want → charges_going self.new.going ≡ []) }
         ensures within { IfOk result (λ want. (limit : ℕ) → IsAskWithin limit want) }
         ensures last { (self.new.fore.dir.last ≡ self.old.fore.dir.last) × (self.new.back.dir.last ≡ self.old.back.dir.last) }
-        ensures left { IfOk result (λ want. Adds 0 (length (charges_of_all more)) self.old self.new) }
+        ensures left { IfOk result (λ want. Pays {C = C} None 0 1 want self.old self.new) }
         ensures weight { IfOk result (λ want. (w : C → ℕ) → weight_of_convo w self.new + weight_of_want w want ≡ weight_of_convo w self.old + weight_of_chunks w more) }
         ensures err { OnErr result ((w : C → ℕ) → weight_of_convo w self.new ≡ weight_of_convo w self.old + weight_of_chunks w more) }
     {
@@ -165,7 +165,7 @@ impl<C: Charge> Convo<C> {
         ensures idle { IfOk result (λ want. IsRest want → charges_going self.new.going ≡ []) }
         ensures within { IfOk result (λ want. (limit : ℕ) → IsAskWithin limit want) }
         ensures last { (self.new.fore.dir.last ≡ self.old.fore.dir.last) × (self.new.back.dir.last ≡ self.old.back.dir.last) }
-        ensures left { IfOk result (λ want. Adds 0 (length (charges_of_all kept) + 1) self.old self.new) }
+        ensures left { IfOk result (λ want. Pays {C = C} None 0 1 want self.old self.new) }
         ensures weight { IfOk result (λ want. (w : C → ℕ) → weight_of_convo w self.new + weight_of_want w want ≡ weight_of_convo w self.old + weight_of_chunks w kept) }
         ensures err { OnErr result ((w : C → ℕ) → weight_of_convo w self.new ≡ weight_of_convo w self.old + weight_of_chunks w kept) }
     {
@@ -191,7 +191,7 @@ impl<C: Charge> Convo<C> {
         ensures idle { IfOk result (λ want. IsRest want → charges_going self.new.going ≡ []) }
         ensures within { IfOk result (λ want. (limit : ℕ) → IsAskWithin limit want) }
         ensures last { (self.new.fore.dir.last ≡ self.old.fore.dir.last) × (self.new.back.dir.last ≡ self.old.back.dir.last) }
-        ensures left { IfOk result (λ want. Adds 0 (length (charges_of_all kept) + 1) self.old self.new) }
+        ensures left { IfOk result (λ want. Pays {C = C} None 0 1 want self.old self.new) }
         ensures weight { IfOk result (λ want. (w : C → ℕ) → weight_of_convo w self.new + weight_of_want w want ≡ weight_of_convo w self.old + weight_of_chunks w kept) }
         ensures err { OnErr result ((w : C → ℕ) → weight_of_convo w self.new ≡ weight_of_convo w self.old + weight_of_chunks w kept) }
     {

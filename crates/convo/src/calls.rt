@@ -11,7 +11,7 @@ ghost use Rattle.streamdefs.specs.Want.{want, with_look, with_free};
 ghost use Rattle.streamdefs.specs.Want.Want.{Reserve, Release, Emit as EmitWanted};
 ghost use Rattle.flowdir.specs.Boundary.{IsLookOf, IsTimely, charge_by, weight_of};
 ghost use Rattle.convo.specs.Weights.{weight_of_want};
-ghost use Rattle.convo.specs.Left.{Lowers};
+ghost use Rattle.convo.specs.Left.{Pays};
 ghost use Rattle.convo.specs.Going.{charges_going};
 ghost use Rattle.convo.specs.Talk.{Talk, SetsUp, IsWantOf, asked_in};
 ghost use Rattle.convo.specs.Talk.Phase.{Under};
@@ -44,7 +44,7 @@ impl<C: Charge> Convo<C> {
         ensures idle { IfOk result (λ want. IsRest want → charges_going self.new.going ≡ []) }
         ensures within { IfOk result (IsAskWithin set.now.marks.limit) }
         ensures last { last_of self.new ≡ last_of self.old }
-        ensures left { IfOk result (λ want. Lowers granted self.old self.new) }
+        ensures left { IfOk result (λ want. Pays granted 0 0 want self.old self.new) }
         ensures weight { IfOk result (λ want. (w : C → ℕ) → weight_of_convo w self.new + weight_of_want w want ≡ weight_of_convo w self.old + weight_of w granted) }
         ensures err { OnErr result ((w : C → ℕ) → weight_of_convo w self.new ≡ weight_of_convo w self.old + weight_of w granted) }
     {
@@ -66,7 +66,7 @@ impl<C: Charge> Convo<C> {
         ensures idle { IfOk result (λ want. IsRest want → charges_going self.new.going ≡ []) }
         ensures within { IfOk result (IsAskWithin set.now.marks.limit) }
         ensures last { last_of self.new ≡ last_of self.old }
-        ensures left { IfOk result (λ want. Lowers granted self.old self.new) }
+        ensures left { IfOk result (λ want. Pays granted 0 0 want self.old self.new) }
         ensures weight { IfOk result (λ want. (w : C → ℕ) → weight_of_convo w self.new + weight_of_want w want ≡ weight_of_convo w self.old + weight_of w granted) }
         ensures err { OnErr result ((w : C → ℕ) → weight_of_convo w self.new ≡ weight_of_convo w self.old + weight_of w granted) }
     {
@@ -93,7 +93,7 @@ impl<C: Charge> Convo<C> {
         ensures idle { IfOk result (λ want. IsRest want → charges_going self.new.going ≡ []) }
         ensures within { IfOk result (IsAskWithin set.now.marks.limit) }
         ensures last { last_of self.new ≡ last_of self.old }
-        ensures left { IfOk result (λ want. Lowers {C = C} None self.old self.new) }
+        ensures left { IfOk result (λ want. Pays {C = C} None 0 0 want self.old self.new) }
         ensures weight { IfOk result (λ want. (w : C → ℕ) → weight_of_convo w self.new + weight_of_want w want ≡ weight_of_convo w self.old) }
         ensures err { OnErr result ((w : C → ℕ) → weight_of_convo w self.new ≡ weight_of_convo w self.old) }
     {
@@ -111,7 +111,7 @@ impl<C: Charge> Convo<C> {
         ensures idle { IfOk result (λ want. IsRest want → charges_going self.new.going ≡ []) }
         ensures within { IfOk result (IsAskWithin set.now.marks.limit) }
         ensures last { last_of self.new ≡ last_of self.old }
-        ensures left { IfOk result (λ want. Lowers {C = C} None self.old self.new) }
+        ensures left { IfOk result (λ want. Pays {C = C} None 0 0 want self.old self.new) }
         ensures weight { IfOk result (λ want. (w : C → ℕ) → weight_of_convo w self.new + weight_of_want w want ≡ weight_of_convo w self.old) }
         ensures err { OnErr result ((w : C → ℕ) → weight_of_convo w self.new ≡ weight_of_convo w self.old) }
     {
@@ -155,7 +155,7 @@ impl<C: Charge> Convo<C> {
         ensures idle { IfOk result (λ want. IsRest want → charges_going self.new.going ≡ []) }
         ensures within { IfOk result (IsAskWithin set.now.marks.limit) }
         ensures last { last_of self.new ≡ last_of self.old }
-        ensures left { IfOk result (λ want. Lowers {C = C} None self.old self.new) }
+        ensures left { IfOk result (λ want. Pays {C = C} None 0 0 want self.old self.new) }
         ensures weight { IfOk result (λ want. (w : C → ℕ) → weight_of_convo w self.new + weight_of_want w want ≡ weight_of_convo w self.old) }
         ensures err { OnErr result ((w : C → ℕ) → weight_of_convo w self.new ≡ weight_of_convo w self.old) }
     {

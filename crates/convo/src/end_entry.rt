@@ -18,7 +18,7 @@ ghost use Rattle.streamdefs.specs.Convo.{Act, kind_of};
 ghost use Rattle.streamdefs.specs.Convo.Act.{End as EndAct};
 ghost use Rattle.flowdir.specs.Boundary.{AsksSome, IsStep, charge_by, asked_by, weight_of_step};
 ghost use Rattle.convo.specs.Weights.{weight_of_chunks, weight_of_want};
-ghost use Rattle.convo.specs.Left.{Adds, Gives, Lowers, grants_left, stage_work, work_left};
+ghost use Rattle.convo.specs.Left.{Gives, Pays, grants_left, price_of, stage_work, work_left};
 ghost use Rattle.convo.specs.Counted.{IsUncounted};
 ghost use Rattle.convo.specs.Going.{charges_going};
 ghost use Rattle.convo.specs.Halves.{Hands, weight_of_half};
@@ -47,7 +47,7 @@ impl<C: Charge> Convo<C> {
         ensures own { (half_of way self.new).own ≡ (half_of way self.old).own }
         ensures kind { dir_kind (half_of way self.new).dir ≡ dir_kind (half_of way self.old).dir }
         ensures last { (half_of way self.new).dir.last ≡ (half_of way self.old).dir.last }
-        ensures left { Gives (length (charges_of_all result)) (half_of way self.old) (half_of way self.new) }
+        ensures left { Gives 0 (half_of way self.old) (half_of way self.new) }
         ensures weight { (w : C → ℕ) → weight_of_half w (half_of way self.new) + weight_of_chunks w result ≡ weight_of_half w (half_of way self.old) }
     {
         match way {
@@ -97,7 +97,7 @@ impl<C: Charge> Convo<C> {
         ensures idle { IsRest result → charges_going self.new.going ≡ [] }
         ensures within { (limit : ℕ) → IsAskWithin limit result }
         ensures last { (self.new.fore.dir.last ≡ self.old.fore.dir.last) × (self.new.back.dir.last ≡ self.old.back.dir.last) }
-        ensures left { Lowers {C = C} None self.old self.new }
+        ensures left { Pays {C = C} None 0 0 result self.old self.new }
         ensures busy { IsRest result → ⊥ }
         ensures weight { (w : C → ℕ) → weight_of_convo w self.new + weight_of_want w result ≡ weight_of_convo w self.old }
     {
@@ -127,7 +127,7 @@ impl<C: Charge> Convo<C> {
         ensures idle { IsRest result → charges_going self.new.going ≡ [] }
         ensures within { IsAskWithin set.now.marks.limit result }
         ensures last { (self.new.fore.dir.last ≡ self.old.fore.dir.last) × (self.new.back.dir.last ≡ self.old.back.dir.last) }
-        ensures left { Adds 0 0 self.old self.new }
+        ensures left { Pays {C = C} None 0 1 result self.old self.new }
         ensures busy { IsRest result → ⊥ }
         ensures weight { (w : C → ℕ) → weight_of_convo w self.new + weight_of_want w result ≡ weight_of_convo w self.old + weight_of_step w step }
     {
@@ -152,7 +152,7 @@ impl<C: Charge> Convo<C> {
         ensures within { (limit : ℕ) → IsAskWithin limit result }
         ensures last { (self.new.fore.dir.last ≡ self.old.fore.dir.last) × (self.new.back.dir.last ≡ self.old.back.dir.last) }
         ensures left { grants_left self.new ≤ grants_left self.old }
-        ensures work { work_left self.new + stage_work self.old.stage ≤ work_left self.old + 2 }
+        ensures work { work_left self.new + price_of result + stage_work self.old.stage ≤ work_left self.old + 4 }
         ensures busy { IsRest result → ⊥ }
         ensures weight { (w : C → ℕ) → weight_of_convo w self.new + weight_of_want w result ≡ weight_of_convo w self.old }
     {
@@ -180,7 +180,7 @@ impl<C: Charge> Convo<C> {
         ensures within { IfOk result (IsAskWithin set.now.marks.limit) }
         ensures last { (self.new.fore.dir.last ≡ self.old.fore.dir.last) × (self.new.back.dir.last ≡ self.old.back.dir.last) }
         ensures left { IfOk result (λ want. grants_left self.new ≤ grants_left self.old) }
-        ensures work { IfOk result (λ want. work_left self.new + stage_work self.old.stage ≤ work_left self.old + 4) }
+        ensures work { IfOk result (λ want. work_left self.new + price_of want + stage_work self.old.stage ≤ work_left self.old + 5) }
         ensures busy { IfOk result (λ want. IsRest want → ⊥) }
         ensures weight { IfOk result (λ want. (w : C → ℕ) → weight_of_convo w self.new + weight_of_want w want ≡ weight_of_convo w self.old) }
         ensures err { OnErr result ((w : C → ℕ) → weight_of_convo w self.new ≡ weight_of_convo w self.old) }
@@ -210,7 +210,7 @@ impl<C: Charge> Convo<C> {
         ensures idle { IfOk result (λ want. IsRest want → charges_going self.new.going ≡ []) }
         ensures within { IfOk result (IsAskWithin set.now.marks.limit) }
         ensures last { (self.new.fore.dir.last ≡ self.old.fore.dir.last) × (self.new.back.dir.last ≡ self.old.back.dir.last) }
-        ensures left { IfOk result (λ want. Lowers {C = C} None self.old self.new) }
+        ensures left { IfOk result (λ want. Pays {C = C} None 0 0 want self.old self.new) }
         ensures busy { IfOk result (λ want. IsRest want → ⊥) }
         ensures weight { IfOk result (λ want. (w : C → ℕ) → weight_of_convo w self.new + weight_of_want w want ≡ weight_of_convo w self.old) }
         ensures err { OnErr result ((w : C → ℕ) → weight_of_convo w self.new ≡ weight_of_convo w self.old) }
@@ -238,7 +238,7 @@ impl<C: Charge> Convo<C> {
         ensures within { IfOk result (IsAskWithin set.now.marks.limit) }
         ensures last { (self.new.fore.dir.last ≡ self.old.fore.dir.last) × (self.new.back.dir.last ≡ self.old.back.dir.last) }
         ensures left { IfOk result (λ want. grants_left self.new ≤ grants_left self.old) }
-        ensures work { IfOk result (λ want. work_left self.new + stage_work self.old.stage ≤ work_left self.old + 4) }
+        ensures work { IfOk result (λ want. work_left self.new + price_of want + stage_work self.old.stage ≤ work_left self.old + 5) }
         ensures busy { IfOk result (λ want. IsRest want → ⊥) }
         ensures weight { IfOk result (λ want. (w : C → ℕ) → weight_of_convo w self.new + weight_of_want w want ≡ weight_of_convo w self.old) }
         ensures err { OnErr result ((w : C → ℕ) → weight_of_convo w self.new ≡ weight_of_convo w self.old) }
@@ -270,7 +270,7 @@ impl<C: Charge> Convo<C> {
         ensures idle { IfOk result (λ want. IsRest want → charges_going self.new.going ≡ []) }
         ensures within { IfOk result (IsAskWithin set.now.marks.limit) }
         ensures last { (self.new.fore.dir.last ≡ self.old.fore.dir.last) × (self.new.back.dir.last ≡ self.old.back.dir.last) }
-        ensures left { IfOk result (λ want. Adds 0 0 self.old self.new) }
+        ensures left { IfOk result (λ want. Pays {C = C} None 0 1 want self.old self.new) }
         ensures busy { IfOk result (λ want. IsRest want → ⊥) }
         ensures weight { IfOk result (λ want. (w : C → ℕ) → weight_of_convo w self.new + weight_of_want w want ≡ weight_of_convo w self.old + weight_of_step w step) }
         ensures err { OnErr result ((w : C → ℕ) → weight_of_convo w self.new ≡ weight_of_convo w self.old + weight_of_step w step) }
@@ -294,7 +294,7 @@ impl<C: Charge> Convo<C> {
         ensures idle { IfOk result (λ want. IsRest want → charges_going self.new.going ≡ []) }
         ensures within { IfOk result (IsAskWithin set.now.marks.limit) }
         ensures last { (self.new.fore.dir.last ≡ self.old.fore.dir.last) × (self.new.back.dir.last ≡ self.old.back.dir.last) }
-        ensures left { IfOk result (λ want. Adds 0 6 self.old self.new) }
+        ensures left { IfOk result (λ want. Pays {C = C} None 0 6 want self.old self.new) }
         ensures busy { IfOk result (λ want. IsRest want → ⊥) }
         ensures weight { IfOk result (λ want. (w : C → ℕ) → weight_of_convo w self.new + weight_of_want w want ≡ weight_of_convo w self.old) }
         ensures err { OnErr result ((w : C → ℕ) → weight_of_convo w self.new ≡ weight_of_convo w self.old) }
@@ -324,7 +324,7 @@ impl<C: Charge> Convo<C> {
         ensures idle { IfOk result (λ want. IsRest want → charges_going self.new.going ≡ []) }
         ensures within { IfOk result (IsAskWithin set.now.marks.limit) }
         ensures last { (self.new.fore.dir.last ≡ self.old.fore.dir.last) × (self.new.back.dir.last ≡ self.old.back.dir.last) }
-        ensures left { IfOk result (λ want. Lowers {C = C} None self.old self.new) }
+        ensures left { IfOk result (λ want. Pays {C = C} None 0 0 want self.old self.new) }
         ensures weight { IfOk result (λ want. (w : C → ℕ) → weight_of_convo w self.new + weight_of_want w want ≡ weight_of_convo w self.old) }
         ensures err { OnErr result ((w : C → ℕ) → weight_of_convo w self.new ≡ weight_of_convo w self.old) }
     {
@@ -347,7 +347,7 @@ impl<C: Charge> Convo<C> {
         ensures idle { IfOk result (λ want. IsRest want → charges_going self.new.going ≡ []) }
         ensures within { IfOk result (IsAskWithin set.now.marks.limit) }
         ensures last { (self.new.fore.dir.last ≡ self.old.fore.dir.last) × (self.new.back.dir.last ≡ self.old.back.dir.last) }
-        ensures left { IfOk result (λ want. Lowers {C = C} None self.old self.new) }
+        ensures left { IfOk result (λ want. Pays {C = C} None 0 0 want self.old self.new) }
         ensures weight { IfOk result (λ want. (w : C → ℕ) → weight_of_convo w self.new + weight_of_want w want ≡ weight_of_convo w self.old) }
         ensures err { OnErr result ((w : C → ℕ) → weight_of_convo w self.new ≡ weight_of_convo w self.old) }
     {
@@ -369,7 +369,7 @@ impl<C: Charge> Convo<C> {
         ensures idle { IfOk result (λ want. IsRest want → charges_going self.new.going ≡ []) }
         ensures within { IfOk result (IsAskWithin set.now.marks.limit) }
         ensures last { (self.new.fore.dir.last ≡ self.old.fore.dir.last) × (self.new.back.dir.last ≡ self.old.back.dir.last) }
-        ensures left { IfOk result (λ want. Lowers {C = C} None self.old self.new) }
+        ensures left { IfOk result (λ want. Pays {C = C} None 0 0 want self.old self.new) }
         ensures weight { IfOk result (λ want. (w : C → ℕ) → weight_of_convo w self.new + weight_of_want w want ≡ weight_of_convo w self.old) }
         ensures err { OnErr result ((w : C → ℕ) → weight_of_convo w self.new ≡ weight_of_convo w self.old) }
     {
@@ -393,7 +393,7 @@ impl<C: Charge> Convo<C> {
         ensures idle { IfOk result (λ want. IsRest want → charges_going self.new.going ≡ []) }
         ensures within { IfOk result (IsAskWithin set.now.marks.limit) }
         ensures last { (self.new.fore.dir.last ≡ self.old.fore.dir.last) × (self.new.back.dir.last ≡ self.old.back.dir.last) }
-        ensures left { IfOk result (λ want. Lowers {C = C} None self.old self.new) }
+        ensures left { IfOk result (λ want. Pays {C = C} None 0 0 want self.old self.new) }
         ensures weight { IfOk result (λ want. (w : C → ℕ) → weight_of_convo w self.new + weight_of_want w want ≡ weight_of_convo w self.old) }
         ensures err { OnErr result ((w : C → ℕ) → weight_of_convo w self.new ≡ weight_of_convo w self.old) }
     {

@@ -1,6 +1,5 @@
 ghost use Rattle.evring.specs.Charges.{charges_of_all};
-ghost use Rattle.std.specs.Prelude.{◌≡◌, ℕ, ◌+◌, ◌++◌, [], length, IsNone, option_to_list};
-ghost use Rattle.flowdir.specs.Left.{count_of};
+ghost use Rattle.std.specs.Prelude.{◌≡◌, ℕ, ◌++◌, [], IsNone, option_to_list};
 ghost use Rattle.convo.specs.Weights.{weight_of_chunks};
 ghost use Rattle.convo.specs.Going.{charges_going, weight_of_charges};
 
@@ -29,7 +28,6 @@ impl<C: Charge> Going<C> {
     #[tactic(auto, using(crate::proofs::GoingSteps::weight_all))]
     pub(crate) fn of(kept: Kept<C>) -> Self
         ensures charges { charges_going result ≡ charges_of_all kept }
-        ensures left { length (charges_going result) ≡ length (charges_of_all kept) }
         ensures weight { (w : C → ℕ) → weight_of_charges w (charges_going result) ≡ weight_of_chunks w kept }
     {
         Going {
@@ -40,15 +38,6 @@ impl<C: Charge> Going<C> {
 
     /// The next charge, where there is one.
     pub(crate) fn next(&mut self) -> Option<C>
-        ensures charges { charges_going self.old ≡ option_to_list result ++ charges_going self.new }
-        ensures left { length (charges_going self.new) + count_of result ≡ length (charges_going self.old) }
-        ensures none { IsNone result → charges_going self.old ≡ [] }
-    {
-        self.pull()
-    }
-
-    /// Takes the next charge.
-    fn pull(&mut self) -> Option<C>
         ensures charges { charges_going self.old ≡ option_to_list result ++ charges_going self.new }
         ensures none { IsNone result → charges_going self.old ≡ [] }
     {

@@ -1,9 +1,8 @@
 ghost use Rattle.convo.specs.Directions.{dir_kind};
-ghost use Rattle.std.specs.Prelude.{◌≡◌, ℕ, ◌+◌, ◌*◌, length, List, [], not, cond, None, IsNone, IfSome};
+ghost use Rattle.std.specs.Prelude.{◌≡◌, ℕ, ◌+◌, ◌*◌, List, [], not, cond, None, IsNone, IfSome};
 ghost use Rattle.streamdefs.specs.Direction.{Direction};
 ghost use Rattle.streamdefs.specs.Pending.{Piece};
 ghost use Rattle.streamdefs.specs.Lists.{is_empty};
-ghost use Rattle.evring.specs.Charges.{charges_of_all};
 ghost use Rattle.flowdir.specs.Left.{count_of};
 ghost use Rattle.convo.specs.Left.{Gives};
 ghost use Rattle.convo.specs.Counted.{CountsTaken, IsUncounted, gaps_with};
@@ -114,7 +113,7 @@ impl<C: Charge> Half<C> {
         ensures own { self.new.own ≡ self.old.own }
         ensures kind { dir_kind self.new.dir ≡ dir_kind self.old.dir }
         ensures last { self.new.dir.last ≡ self.old.dir.last }
-        ensures left { Gives (length (charges_of_all result)) self.old self.new }
+        ensures left { Gives 0 self.old self.new }
         ensures weight { (w : C → ℕ) → weight_of_half w self.new + weight_of_chunks w result ≡ weight_of_half w self.old }
     {
         if self.look() {

@@ -20,7 +20,7 @@ ghost use Rattle.flowdir.specs.Boundary.{AsksSome, IsStep, IsLookOf, charge_by, 
 ghost use Rattle.flowdir.specs.Boundary.Phase.{Rests as DirRests};
 ghost use Rattle.convo.specs.Weights.{weight_of_want};
 ghost use Rattle.convo.specs.Seen.{packet_of};
-ghost use Rattle.convo.specs.Left.{Adds, Lowers};
+ghost use Rattle.convo.specs.Left.{Pays};
 ghost use Rattle.convo.specs.Going.{charges_going};
 ghost use Rattle.convo.specs.Talk.{Talk, SetsUp, IsWantOf, asked_in};
 ghost use Rattle.convo.specs.Standing.{IsMidway, asked_of, closing_by, counts_with, done_of, finished_segment, half_of, IsAskWithin, IsRest, IsResting, last_of, owed_by_segment, weight_of_convo, with_counts};
@@ -114,7 +114,7 @@ impl<C: Charge> Convo<C> {
         ensures idle { IsRest result → charges_going self.new.going ≡ [] }
         ensures within { IsAskWithin set.now.marks.limit result }
         ensures asked { dir_asked (half_of way self.old).dir ≡ asked_by step → asked_of self.new ≡ asked_in result }
-        ensures left { Adds 0 0 self.old self.new }
+        ensures left { Pays {C = C} None 0 1 result self.old self.new }
         ensures weight { (w : C → ℕ) → weight_of_convo w self.new + weight_of_want w result ≡ weight_of_convo w self.old + weight_of_step w step }
     {
         match step {
@@ -140,7 +140,7 @@ impl<C: Charge> Convo<C> {
         ensures idle { IfOk result (λ want. IsRest want → charges_going self.new.going ≡ []) }
         ensures within { IfOk result (IsAskWithin set.now.marks.limit) }
         ensures last { OnOk result (last_of self.new ≡ packet.entry.now.number) }
-        ensures left { IfOk result (λ want. Adds (2 * length packet.entry.now.payload) (112 * length packet.entry.now.payload + 27) self.old self.new) }
+        ensures left { IfOk result (λ want. Pays {C = C} None (2 * length packet.entry.now.payload) (112 * length packet.entry.now.payload + 29) want self.old self.new) }
         ensures weight { IfOk result (λ want. (w : C → ℕ) → weight_of_convo w self.new + weight_of_want w want ≡ weight_of_convo w self.old) }
         ensures err { OnErr result ((w : C → ℕ) → weight_of_convo w self.new ≡ weight_of_convo w self.old) }
     {
@@ -173,7 +173,7 @@ impl<C: Charge> Convo<C> {
         ensures idle { IfOk result (λ want. IsRest want → charges_going self.new.going ≡ []) }
         ensures within { IfOk result (IsAskWithin set.now.marks.limit) }
         ensures last { last_of self.new ≡ last_of self.old }
-        ensures left { IfOk result (λ want. Lowers granted self.old self.new) }
+        ensures left { IfOk result (λ want. Pays granted 0 0 want self.old self.new) }
         ensures weight { IfOk result (λ want. (w : C → ℕ) → weight_of_convo w self.new + weight_of_want w want ≡ weight_of_convo w self.old + weight_of w granted) }
         ensures err { OnErr result ((w : C → ℕ) → weight_of_convo w self.new ≡ weight_of_convo w self.old + weight_of w granted) }
     {
@@ -197,7 +197,7 @@ impl<C: Charge> Convo<C> {
         ensures idle { IfOk result (λ want. IsRest want → charges_going self.new.going ≡ []) }
         ensures within { IfOk result (IsAskWithin set.now.marks.limit) }
         ensures last { last_of self.new ≡ last_of self.old }
-        ensures left { IfOk result (λ want. Lowers {C = C} None self.old self.new) }
+        ensures left { IfOk result (λ want. Pays {C = C} None 0 0 want self.old self.new) }
         ensures weight { IfOk result (λ want. (w : C → ℕ) → weight_of_convo w self.new + weight_of_want w want ≡ weight_of_convo w self.old) }
         ensures err { OnErr result ((w : C → ℕ) → weight_of_convo w self.new ≡ weight_of_convo w self.old) }
     {

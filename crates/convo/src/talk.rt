@@ -11,7 +11,7 @@ ghost use Rattle.convo.specs.Weights.{weight_of_want, weight_of_chunks};
 ghost use Rattle.flowdir.specs.Boundary.{weight_of_parts};
 ghost use Rattle.chunkpart.specs.ChunkParts.{parts_of};
 ghost use Rattle.convo.specs.Talk.{Talk, IsWantOf, asked_in};
-ghost use Rattle.convo.specs.Left.{Adds, Lowers, stage_work};
+ghost use Rattle.convo.specs.Left.{Pays, stage_work};
 ghost use Rattle.convo.specs.Going.{charges_going};
 ghost use Rattle.convo.specs.Standing.{HandsOver, IsAskWithin, IsRest, IsResting, IsLeft, asked_of, weight_of_convo};
 
@@ -86,8 +86,8 @@ impl<C: Charge> Convo<C> {
         ensures within { (limit : ℕ) → IsAskWithin limit result }
         ensures asked { asked_of self.new ≡ asked_in result }
         ensures last { (self.new.fore.dir.last ≡ self.old.fore.dir.last) × (self.new.back.dir.last ≡ self.old.back.dir.last) }
-        ensures left { Adds 0 0 self.old self.new }
-        ensures less { 1 ≤ stage_work self.old.stage → Lowers {C = C} None self.old self.new }
+        ensures left { Pays {C = C} None 0 1 result self.old self.new }
+        ensures less { 1 ≤ stage_work self.old.stage → Pays {C = C} None 0 0 result self.old self.new }
         ensures weight { (w : C → ℕ) → weight_of_convo w self.new + weight_of_want w result ≡ weight_of_convo w self.old }
     {
         if let Some(charge) = self.going.next() {
@@ -106,7 +106,7 @@ impl<C: Charge> Convo<C> {
         ensures within { (limit : ℕ) → IsAskWithin limit result }
         ensures asked { asked_of self.new ≡ asked_in result }
         ensures last { (self.new.fore.dir.last ≡ self.old.fore.dir.last) × (self.new.back.dir.last ≡ self.old.back.dir.last) }
-        ensures left { Lowers {C = C} None self.old self.new }
+        ensures left { Pays {C = C} None 0 0 result self.old self.new }
         ensures busy { (reason : Reason) → self.old.over ≡ Some reason → IsRest result → ⊥ }
         ensures weight { (w : C → ℕ) → weight_of_convo w self.new + weight_of_want w result ≡ weight_of_convo w self.old }
     {
@@ -140,7 +140,7 @@ impl<C: Charge> Convo<C> {
         ensures within { (limit : ℕ) → IsAskWithin limit result }
         ensures asked { asked_of self.new ≡ asked_in result }
         ensures last { (self.new.fore.dir.last ≡ self.old.fore.dir.last) × (self.new.back.dir.last ≡ self.old.back.dir.last) }
-        ensures left { Lowers {C = C} None self.old self.new }
+        ensures left { Pays {C = C} None 0 0 result self.old self.new }
         ensures weight { (w : C → ℕ) → weight_of_convo w self.new + weight_of_want w result ≡ weight_of_convo w self.old }
     {
         self.hand_over()

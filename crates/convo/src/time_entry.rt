@@ -17,7 +17,7 @@ ghost use Rattle.streamdefs.specs.Convo.Act.{Time as TimeAct};
 ghost use Rattle.flowdir.specs.Boundary.{AsksSome, IsLookOf, IsStep, IsTimely, weight_of, charge_by, asked_by, weight_of_step};
 ghost use Rattle.flowdir.specs.Boundary.Phase.{Rests as DirRests};
 ghost use Rattle.convo.specs.Weights.{weight_of_want};
-ghost use Rattle.convo.specs.Left.{Adds, Lowers, due_at, grants_left, stage_work, work_left};
+ghost use Rattle.convo.specs.Left.{Lowers, Pays, due_at, grants_left, price_of, stage_work, work_left};
 ghost use Rattle.convo.specs.Going.{charges_going};
 ghost use Rattle.convo.specs.Talk.{Talk, SetsUp, IsWantOf, asked_in};
 ghost use Rattle.convo.specs.Standing.{IsMidway, IsAskWithin, IsRest, IsResting, asked_of, closing_by, done_of, half_of, weight_of_convo};
@@ -60,7 +60,7 @@ impl<C: Charge> Convo<C> {
         ensures idle { IsRest result → charges_going self.new.going ≡ [] }
         ensures within { IsAskWithin set.now.marks.limit result }
         ensures last { (self.new.fore.dir.last ≡ self.old.fore.dir.last) × (self.new.back.dir.last ≡ self.old.back.dir.last) }
-        ensures left { Adds 0 0 self.old self.new }
+        ensures left { Pays {C = C} None 0 1 result self.old self.new }
         ensures weight { (w : C → ℕ) → weight_of_convo w self.new + weight_of_want w result ≡ weight_of_convo w self.old + weight_of_step w step }
     {
         match step {
@@ -86,7 +86,7 @@ impl<C: Charge> Convo<C> {
         ensures within { IfOk result (IsAskWithin set.now.marks.limit) }
         ensures last { (self.new.fore.dir.last ≡ self.old.fore.dir.last) × (self.new.back.dir.last ≡ self.old.back.dir.last) }
         ensures left { IfOk result (λ want. grants_left self.new ≤ grants_left self.old) }
-        ensures due { IfOk result (λ want. work_left self.new + 8 * due_now at.at (dir_due set.now.shape.hole set.now.shape.flush self.old.back.dir) + stage_work self.old.stage ≤ work_left self.old + 2) }
+        ensures due { IfOk result (λ want. work_left self.new + price_of want + 8 * due_now at.at (dir_due set.now.shape.hole set.now.shape.flush self.old.back.dir) + stage_work self.old.stage ≤ work_left self.old + 2) }
         ensures weight { IfOk result (λ want. (w : C → ℕ) → weight_of_convo w self.new + weight_of_want w want ≡ weight_of_convo w self.old) }
         ensures err { OnErr result ((w : C → ℕ) → weight_of_convo w self.new ≡ weight_of_convo w self.old) }
     {
@@ -114,7 +114,7 @@ impl<C: Charge> Convo<C> {
         ensures within { IfOk result (IsAskWithin set.now.marks.limit) }
         ensures last { (self.new.fore.dir.last ≡ self.old.fore.dir.last) × (self.new.back.dir.last ≡ self.old.back.dir.last) }
         ensures left { IfOk result (λ want. grants_left self.new ≤ grants_left self.old) }
-        ensures due { IfOk result (λ want. work_left self.new + 8 * if_done step (due_now at.at (dir_due set.now.shape.hole set.now.shape.flush self.old.back.dir)) ≤ work_left self.old) }
+        ensures due { IfOk result (λ want. work_left self.new + price_of want + 8 * if_done step (due_now at.at (dir_due set.now.shape.hole set.now.shape.flush self.old.back.dir)) ≤ work_left self.old + 1) }
         ensures weight { IfOk result (λ want. (w : C → ℕ) → weight_of_convo w self.new + weight_of_want w want ≡ weight_of_convo w self.old + weight_of_step w step) }
         ensures err { OnErr result ((w : C → ℕ) → weight_of_convo w self.new ≡ weight_of_convo w self.old + weight_of_step w step) }
     {
@@ -137,8 +137,9 @@ impl<C: Charge> Convo<C> {
         ensures idle { IfOk result (λ want. IsRest want → charges_going self.new.going ≡ []) }
         ensures within { IfOk result (IsAskWithin set.now.marks.limit) }
         ensures last { (self.new.fore.dir.last ≡ self.old.fore.dir.last) × (self.new.back.dir.last ≡ self.old.back.dir.last) }
-        ensures left { IfOk result (λ want. Adds 0 3 self.old self.new) }
-        ensures due { IfOk result (λ want. due_at set.now.shape.hole set.now.shape.flush self.old ≡ Some at → Lowers {C = C} None self.old self.new) }
+        ensures left { IfOk result (λ want. Pays {C = C} None 0 2 want self.old self.new) }
+        ensures due { IfOk result (λ want. due_at set.now.shape.hole set.now.shape.flush self.old ≡ Some at → Pays {C = C} None 0 0 want self.old self.new) }
+        ensures less { IfOk result (λ want. due_at set.now.shape.hole set.now.shape.flush self.old ≡ Some at → Lowers {C = C} None self.old self.new) }
         ensures weight { IfOk result (λ want. (w : C → ℕ) → weight_of_convo w self.new + weight_of_want w want ≡ weight_of_convo w self.old) }
         ensures err { OnErr result ((w : C → ℕ) → weight_of_convo w self.new ≡ weight_of_convo w self.old) }
     {
@@ -167,7 +168,7 @@ impl<C: Charge> Convo<C> {
         ensures idle { IfOk result (λ want. IsRest want → charges_going self.new.going ≡ []) }
         ensures within { IfOk result (IsAskWithin set.now.marks.limit) }
         ensures last { (self.new.fore.dir.last ≡ self.old.fore.dir.last) × (self.new.back.dir.last ≡ self.old.back.dir.last) }
-        ensures left { IfOk result (λ want. Lowers granted self.old self.new) }
+        ensures left { IfOk result (λ want. Pays granted 0 0 want self.old self.new) }
         ensures weight { IfOk result (λ want. (w : C → ℕ) → weight_of_convo w self.new + weight_of_want w want ≡ weight_of_convo w self.old + weight_of w granted) }
         ensures err { OnErr result ((w : C → ℕ) → weight_of_convo w self.new ≡ weight_of_convo w self.old + weight_of w granted) }
     {
@@ -191,7 +192,7 @@ impl<C: Charge> Convo<C> {
         ensures idle { IfOk result (λ want. IsRest want → charges_going self.new.going ≡ []) }
         ensures within { IfOk result (IsAskWithin set.now.marks.limit) }
         ensures last { (self.new.fore.dir.last ≡ self.old.fore.dir.last) × (self.new.back.dir.last ≡ self.old.back.dir.last) }
-        ensures left { IfOk result (λ want. Lowers granted self.old self.new) }
+        ensures left { IfOk result (λ want. Pays granted 0 0 want self.old self.new) }
         ensures weight { IfOk result (λ want. (w : C → ℕ) → weight_of_convo w self.new + weight_of_want w want ≡ weight_of_convo w self.old + weight_of w granted) }
         ensures err { OnErr result ((w : C → ℕ) → weight_of_convo w self.new ≡ weight_of_convo w self.old + weight_of w granted) }
     {
@@ -209,7 +210,7 @@ impl<C: Charge> Convo<C> {
         ensures idle { IfOk result (λ want. IsRest want → charges_going self.new.going ≡ []) }
         ensures within { IfOk result (IsAskWithin set.now.marks.limit) }
         ensures last { (self.new.fore.dir.last ≡ self.old.fore.dir.last) × (self.new.back.dir.last ≡ self.old.back.dir.last) }
-        ensures left { IfOk result (λ want. Lowers {C = C} None self.old self.new) }
+        ensures left { IfOk result (λ want. Pays {C = C} None 0 0 want self.old self.new) }
         ensures weight { IfOk result (λ want. (w : C → ℕ) → weight_of_convo w self.new + weight_of_want w want ≡ weight_of_convo w self.old) }
         ensures err { OnErr result ((w : C → ℕ) → weight_of_convo w self.new ≡ weight_of_convo w self.old) }
     {
@@ -227,7 +228,7 @@ impl<C: Charge> Convo<C> {
         ensures idle { IfOk result (λ want. IsRest want → charges_going self.new.going ≡ []) }
         ensures within { IfOk result (IsAskWithin set.now.marks.limit) }
         ensures last { (self.new.fore.dir.last ≡ self.old.fore.dir.last) × (self.new.back.dir.last ≡ self.old.back.dir.last) }
-        ensures left { IfOk result (λ want. Lowers {C = C} None self.old self.new) }
+        ensures left { IfOk result (λ want. Pays {C = C} None 0 0 want self.old self.new) }
         ensures weight { IfOk result (λ want. (w : C → ℕ) → weight_of_convo w self.new + weight_of_want w want ≡ weight_of_convo w self.old) }
         ensures err { OnErr result ((w : C → ℕ) → weight_of_convo w self.new ≡ weight_of_convo w self.old) }
     {

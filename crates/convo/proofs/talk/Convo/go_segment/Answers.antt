@@ -17,4 +17,4 @@ returns-in-Done-clause-turn g c = λ t k p looks frees s m w r h.
 
 pub returns-in-Done-clause-left : goal.returns-in-Done-clause-left
 returns-in-Done-clause-left g c =
-    segment_left c.args.way c.args.now c.args.reset _ c.args.self.now c.count.new.self c.finish_segment.new.self c.hand_over.new.self c.requires.stage c.count.ensures c.finish_segment.ensures.same c.hand_over.ensures.left
+    segment_left c.args.way c.args.now c.args.reset _ c.args.self.now c.count.new.self c.finish_segment.new.self c.hand_over.new.self c.hand_over.result c.requires.stage c.count.ensures c.finish_segment.ensures.same c.hand_over.ensures.left

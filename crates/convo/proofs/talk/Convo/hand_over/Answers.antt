@@ -25,18 +25,18 @@ returns-in-Some-hand_over-clause-weight g c = λ w. rw (c.tell_chunk-in-Some-han
     (let e = c.in_default.ensures.weight w in let f = c.in-Some-hand_over.ensures.weight w in omega arith)
 
 pub returns-then-self-clause-left : goal.returns-then-self-clause-left
-returns-then-self-clause-left g c = rw c.tell_new.ensures.same (let o = ap {B = ℕ} (λ b. cond b 1 0) c.if-self.true in record { grants_less = omega arith; work_less = omega arith })
+returns-then-self-clause-left g c = rw (c.tell_new.ensures.want, c.tell_new.ensures.same) (let o = ap {B = ℕ} (λ b. cond b 3 0) c.if-self.true in record { grants_most = omega arith; work_most = omega arith })
 
 pub returns-in-Some-clause-left : goal.returns-in-Some-clause-left
-returns-in-Some-clause-left g c = rw c.tell_chunk.ensures.same (
+returns-in-Some-clause-left g c = rw (c.tell_chunk.ensures.want, c.tell_chunk.ensures.same) (
     let a = c.in-Some.ensures.left.grants_most in
     let b = c.in-Some.ensures.left.work_most in
-    record { grants_less = omega arith; work_less = omega arith })
+    record { grants_most = omega arith; work_most = omega arith })
 
 pub returns-in-Some-hand_over-clause-left : goal.returns-in-Some-hand_over-clause-left
-returns-in-Some-hand_over-clause-left g c = rw c.tell_chunk-in-Some-hand_over.ensures.same (
+returns-in-Some-hand_over-clause-left g c = rw (c.tell_chunk-in-Some-hand_over.ensures.want, c.tell_chunk-in-Some-hand_over.ensures.same) (
     let a = c.in_default.ensures.left.grants_most in
     let b = c.in_default.ensures.left.work_most in
     let d = c.in-Some-hand_over.ensures.left.grants_most in
     let e = c.in-Some-hand_over.ensures.left.work_most in
-    record { grants_less = omega arith; work_less = omega arith })
+    record { grants_most = omega arith; work_most = omega arith })

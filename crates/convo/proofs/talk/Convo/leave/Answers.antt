@@ -40,8 +40,8 @@ returns-clause-weight g c = λ w.
 
 pub returns-clause-left : goal.returns-clause-left
 returns-clause-left g c =
-    (leave_left c.args.way _ c.of.result (at.Unshown c.args.at c.args.reason c.args.way) c.args.self.now c.unshown_way-kept.new.self c.requires.gone c.of.ensures.left c.unshown_way-kept.ensures.same c.unshown_way-kept.ensures.left).0
+    (leave_left c.args.way c.of.result (at.Unshown c.args.at c.args.reason c.args.way) c.args.self.now c.unshown_way-kept.new.self c.unshown_way-kept.ensures.same c.unshown_way-kept.ensures.left).0
 
 pub returns-clause-work : goal.returns-clause-work
 returns-clause-work g c =
-    (leave_left c.args.way _ c.of.result (at.Unshown c.args.at c.args.reason c.args.way) c.args.self.now c.unshown_way-kept.new.self c.requires.gone c.of.ensures.left c.unshown_way-kept.ensures.same c.unshown_way-kept.ensures.left).1
+    (leave_left c.args.way c.of.result (at.Unshown c.args.at c.args.reason c.args.way) c.args.self.now c.unshown_way-kept.new.self c.unshown_way-kept.ensures.same c.unshown_way-kept.ensures.left).1

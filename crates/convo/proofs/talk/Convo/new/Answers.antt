@@ -1,4 +1,4 @@
-use Rattle.std.proofs.Common.{refl, sym, ◌∙◌, ap, [], map, length, arith}
+use Rattle.std.proofs.Common.{refl, sym, ◌∙◌, ap, [], map, arith}
 use Rattle.flowdir.specs.Boundary.{charge_by}
 use Rattle.cutclass.specs.declared.cut.Cut.TheVariants.{Unset}
 use Rattle.convo.specs.Seen.{kept_for}
@@ -51,5 +51,4 @@ pub returns-clause-work : goal.returns-clause-work
 returns-clause-work g c =
     let a = c.new.ensures.work in
     let b = c.new-2.ensures.work in
-    let e = ap length c.none.ensures in
     omega arith

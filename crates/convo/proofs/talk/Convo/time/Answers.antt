@@ -21,8 +21,12 @@ returns-clause-turn g c = if_ok_map c.go_time_fore.result c.go_time_fore.ensures
 
 pub returns-clause-left : goal.returns-clause-left
 returns-clause-left g c = if_ok_both c.go_time_fore.result c.go_time_fore.ensures.left c.go_time_fore.ensures.due (λ want a b.
-    (time_left _ _ c.args.at _ c.args.self.now c.time_way.new.self c.go_time_fore.new.self c.in_ok-step.step refl c.in_ok-step.ensures.same c.in_ok-step.ensures.left a b).0)
+    (time_left c.args.set.now.shape.hole c.args.set.now.shape.flush c.args.at _ c.args.self.now c.time_way.new.self c.go_time_fore.new.self c.in_ok-step.step want refl c.in_ok-step.ensures.same c.in_ok-step.ensures.left a b).left)
 
 pub returns-clause-due : goal.returns-clause-due
 returns-clause-due g c = if_ok_both c.go_time_fore.result c.go_time_fore.ensures.left c.go_time_fore.ensures.due (λ want a b.
-    (time_left _ _ c.args.at _ c.args.self.now c.time_way.new.self c.go_time_fore.new.self c.in_ok-step.step refl c.in_ok-step.ensures.same c.in_ok-step.ensures.left a b).1)
+    (time_left c.args.set.now.shape.hole c.args.set.now.shape.flush c.args.at _ c.args.self.now c.time_way.new.self c.go_time_fore.new.self c.in_ok-step.step want refl c.in_ok-step.ensures.same c.in_ok-step.ensures.left a b).due)
+
+pub returns-clause-less : goal.returns-clause-less
+returns-clause-less g c = if_ok_both c.go_time_fore.result c.go_time_fore.ensures.left c.go_time_fore.ensures.due (λ want a b.
+    (time_left c.args.set.now.shape.hole c.args.set.now.shape.flush c.args.at _ c.args.self.now c.time_way.new.self c.go_time_fore.new.self c.in_ok-step.step want refl c.in_ok-step.ensures.same c.in_ok-step.ensures.left a b).less)
