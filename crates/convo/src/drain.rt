@@ -16,7 +16,7 @@ use std::alloc::Global;
 use std::mem;
 
 /// One of the charges of a chunk.
-fn drain_chunk<C: Charge>(chunk: &mut Option<Chunk<C>>) -> Option<C>
+pub fn drain_chunk<C: Charge>(chunk: &mut Option<Chunk<C>>) -> Option<C>
     ensures weight { (w : C → ℕ) → weight_of_chunk w chunk.new + weight_of w result ≡ weight_of_chunk w chunk.old }
     ensures none { IsNone result → (w : C → ℕ) → weight_of_chunk w chunk.old ≡ 0 }
 {
@@ -30,7 +30,7 @@ fn drain_chunk<C: Charge>(chunk: &mut Option<Chunk<C>>) -> Option<C>
 
 /// One of the charges of these chunks, of which those behind are let go once they are empty.
 #[tactic(auto, using(crate::proofs::Weighing::weight_behind))]
-fn drain_chunks<C: Charge>(chunks: &mut Vec<Chunk<C>>) -> Option<C>
+pub fn drain_chunks<C: Charge>(chunks: &mut Vec<Chunk<C>>) -> Option<C>
     ensures weight { (w : C → ℕ) → weight_of_chunks w chunks.new.items + weight_of w result ≡ weight_of_chunks w chunks.old.items }
     ensures none { IsNone result → (w : C → ℕ) → weight_of_chunks w chunks.old.items ≡ 0 }
 {

@@ -32,6 +32,7 @@ mod want;
 pub use answered_event::AnsweredEvent;
 pub use convo_set::ConvoSet;
 pub use dir_total::DirTotal;
+pub use drain::{drain_chunk, drain_chunks};
 pub use laws::sums_are_those_of_the_history;
 pub use memory::Memory;
 pub use talk::Convo;

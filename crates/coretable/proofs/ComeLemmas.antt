@@ -36,7 +36,7 @@ pub sound_after : (t : Terms) (last : ℕ) (handler : Handler) (n : ℕ) (m ther
 sound_after t last handler zero m there a sound = subst (IsSound t last handler) a sound
 sound_after t last handler (suc n) m there a sound = sound_one t last handler n m there (step t m) refl sound a (λ c h s. sound_after t last handler n c there h s)
 
-one_more : (t : Terms) (m next : Course) → step t m ≡ Goes next → After t 1 m next
+pub one_more : (t : Terms) (m next : Course) → step t m ≡ Goes next → After t 1 m next
 one_more t m next e = subst (GoesOn (λ c. c ≡ next)) (sym e) refl
 
 module _ {C D : Type 0} (paid : C → Charge) (Stands : D → Talk → Phase → Type 0) where

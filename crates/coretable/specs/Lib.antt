@@ -10,3 +10,7 @@ pub mod Standing
 pub mod Turns
 pub mod Verdicts
 pub mod Falling
+pub mod Weighed
+pub mod Fits
+pub mod Steps
+pub mod Table

@@ -1,5 +1,5 @@
 // What an ask, a release or an event is answered by goes to the entry under way.
-ghost use Rattle.std.specs.Prelude.{◌≡◌, ◌++◌, [], ◌∷◌, ℕ, suc, IfOk, OnOk};
+ghost use Rattle.std.specs.Prelude.{◌≡◌, ◌+◌, ◌++◌, [], ◌∷◌, ℕ, suc, IfErr, IfOk, OnErr, OnOk};
 ghost use Rattle.histbook.specs.declared.look_entry.LookEntry.{LookEntry as Look};
 ghost use Rattle.prio_budget.specs.declared.free.Free.{Free as FreeDone};
 ghost use Rattle.streamdefs.specs.Terms.{Terms};
@@ -11,10 +11,14 @@ ghost use Rattle.streamdefs.specs.Want.{want, with_look, with_free};
 ghost use Rattle.streamdefs.specs.Want.Want.{Reserve, Release, Emit as EmitWanted};
 ghost use Rattle.coretable.specs.Course.{Course};
 ghost use Rattle.coretable.specs.Lawfully.{IsSound};
-ghost use Rattle.flowdir.specs.Boundary.{charge_by, IsLookOf};
+ghost use Rattle.flowdir.specs.Boundary.{charge_by, IsLookOf, weight_of};
 ghost use Rattle.coretable.specs.Held.{StandsFor};
 ghost use Rattle.convo.specs.Talk.{Talk, IsWantOf, SetsUp};
 ghost use Rattle.convo.specs.Talk.Phase.{Under as UnderWay};
+ghost use Rattle.convo.specs.Standing.{IsAskWithin};
+ghost use Rattle.convo.specs.Weights.{weight_of_want};
+ghost use Rattle.coretable.specs.Steps.{IsStep};
+ghost use Rattle.coretable.specs.Weighed.{weight_of_active};
 ghost use Rattle.coretable.specs.Turns.{AtEvent, AtFree, AtLook, Settles};
 
 use crate::settling::settle;
@@ -51,6 +55,9 @@ fn tell<C: Charge>(
         → want t k.convo act n ≡ Reserve request mark → IsLookOf (charge_by C.amount C.stamp) granted look
         → IsWantOf (charge_by C.amount C.stamp) (StandsFor (charge_by C.amount C.stamp) t active.new.talk) t k (with_look look act) n w) }
     ensures rest { active.new ≡ record active.old { talk = active.new.talk } }
+    ensures within { IfOk result (IsAskWithin set.now.marks.limit) }
+    ensures weight { IfOk result (λ want. (w : C → ℕ) → weight_of_active w active.new + weight_of_want w want ≡ weight_of_active w active.old + weight_of w granted) }
+    ensures err { IfErr result (λ back. (w : C → ℕ) → weight_of_active w active.new + weight_of w back ≡ weight_of_active w active.old + weight_of w granted) }
 {
     active.talk.told(set, granted)
 }
@@ -60,6 +67,9 @@ fn tell_free<C: Charge>(set: &ConvoSet, active: &mut Active<Held<C>>) -> Result<
     ensures turn { IfOk result (λ w. (t : Terms) (k : Talk) (act : Act) (n : ℕ) (free : FreeDone) (charge : ChargeMade) → SetsUp set.now t → StandsFor (charge_by C.amount C.stamp) t active.old.talk k (UnderWay act n)
         → want t k.convo act n ≡ Release charge → IsWantOf (charge_by C.amount C.stamp) (StandsFor (charge_by C.amount C.stamp) t active.new.talk) t k (with_free free act) n w) }
     ensures rest { active.new ≡ record active.old { talk = active.new.talk } }
+    ensures within { IfOk result (IsAskWithin set.now.marks.limit) }
+    ensures weight { IfOk result (λ want. (w : C → ℕ) → weight_of_active w active.new + weight_of_want w want ≡ weight_of_active w active.old) }
+    ensures err { OnErr result ((w : C → ℕ) → weight_of_active w active.new ≡ weight_of_active w active.old) }
 {
     active.talk.freed(set)
 }
@@ -69,6 +79,9 @@ fn tell_event<C: Charge>(set: &ConvoSet, active: &mut Active<Held<C>>) -> Result
     ensures turn { IfOk result (λ w. (t : Terms) (k : Talk) (act : Act) (n : ℕ) (event : EventMade) → SetsUp set.now t → StandsFor (charge_by C.amount C.stamp) t active.old.talk k (UnderWay act n)
         → want t k.convo act n ≡ EmitWanted event → IsWantOf (charge_by C.amount C.stamp) (StandsFor (charge_by C.amount C.stamp) t active.new.talk) t k act (suc n) w) }
     ensures rest { active.new ≡ record active.old { talk = active.new.talk } }
+    ensures within { IfOk result (IsAskWithin set.now.marks.limit) }
+    ensures weight { IfOk result (λ want. (w : C → ℕ) → weight_of_active w active.new + weight_of_want w want ≡ weight_of_active w active.old) }
+    ensures err { OnErr result ((w : C → ℕ) → weight_of_active w active.new ≡ weight_of_active w active.old) }
 {
     active.talk.emitted(set)
 }
@@ -81,9 +94,10 @@ pub(crate) fn go_on_told<C: Charge>(
     look: LookEntry,
     granted: Option<C>,
 ) -> Result<(Stage<C, Held<C>>, Option<Turn<C>>), Hand<C>>
-    ensures { (t : Terms) (last : ℕ) (handler : Handler) (m : Course) → IsSound t last handler m → SetsUp set.now t
+    ensures turn { (t : Terms) (last : ℕ) (handler : Handler) (m : Course) → IsSound t last handler m → SetsUp set.now t
         → AtLook (charge_by C.amount C.stamp) (StandsFor (charge_by C.amount C.stamp) t) t m desk.old active look granted
         → IfOk result (λ r. Settles (charge_by C.amount C.stamp) (StandsFor (charge_by C.amount C.stamp) t) t m desk.new r.0 r.1) }
+    ensures step { IsStep (charge_by C.amount C.stamp) set.now.marks.limit desk.old desk.new (λ w. weight_of_active w active + weight_of w granted) result }
 {
     let mut active = active;
     let Ok(()) = put_look(&mut active, look) else {
@@ -102,9 +116,10 @@ pub(crate) fn go_on_freed<C: Charge>(
     active: Active<Held<C>>,
     free: Free,
 ) -> Result<(Stage<C, Held<C>>, Option<Turn<C>>), Hand<C>>
-    ensures { (t : Terms) (last : ℕ) (handler : Handler) (m : Course) → IsSound t last handler m → SetsUp set.now t
+    ensures turn { (t : Terms) (last : ℕ) (handler : Handler) (m : Course) → IsSound t last handler m → SetsUp set.now t
         → AtFree (StandsFor (charge_by C.amount C.stamp) t) t m desk.old active free
         → IfOk result (λ r. Settles (charge_by C.amount C.stamp) (StandsFor (charge_by C.amount C.stamp) t) t m desk.new r.0 r.1) }
+    ensures step { IsStep (charge_by C.amount C.stamp) set.now.marks.limit desk.old desk.new (λ w. weight_of_active w active) result }
 {
     let mut active = active;
     let Ok(()) = put_free(&mut active, free) else {
@@ -122,9 +137,10 @@ pub(crate) fn go_on_emitted<C: Charge>(
     desk: &mut Desk<Held<C>>,
     active: Active<Held<C>>,
 ) -> Result<(Stage<C, Held<C>>, Option<Turn<C>>), Hand<C>>
-    ensures { (t : Terms) (last : ℕ) (handler : Handler) (m : Course) → IsSound t last handler m → SetsUp set.now t
+    ensures turn { (t : Terms) (last : ℕ) (handler : Handler) (m : Course) → IsSound t last handler m → SetsUp set.now t
         → AtEvent (StandsFor (charge_by C.amount C.stamp) t) t m desk.old active
         → IfOk result (λ r. Settles (charge_by C.amount C.stamp) (StandsFor (charge_by C.amount C.stamp) t) t m desk.new r.0 r.1) }
+    ensures step { IsStep (charge_by C.amount C.stamp) set.now.marks.limit desk.old desk.new (λ w. weight_of_active w active) result }
 {
     let mut active = active;
     match tell_event(set, &mut active) {

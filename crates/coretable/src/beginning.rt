@@ -1,5 +1,5 @@
 // An entry of a conversation that is there begins.
-ghost use Rattle.std.specs.Prelude.{◌≡◌, ℕ, [], Some, None, IfSome, IfOk, slice_get, slice_set};
+ghost use Rattle.std.specs.Prelude.{◌≡◌, ◌+◌, ℕ, [], Some, None, IfSome, IfOk, slice_get, slice_set};
 ghost use Rattle.streamdefs.specs.Terms.{Terms};
 ghost use Rattle.streamdefs.specs.Lawful.{Handler};
 ghost use Rattle.streamdefs.specs.Core.{Open};
@@ -10,6 +10,8 @@ ghost use Rattle.flowdir.specs.Boundary.{charge_by};
 ghost use Rattle.coretable.specs.Held.{StandsFor};
 ghost use Rattle.convo.specs.Talk.{SetsUp};
 ghost use Rattle.coretable.specs.Standing.{Keeps};
+ghost use Rattle.coretable.specs.Steps.{IsStep, nothing, size_if_ok};
+ghost use Rattle.coretable.specs.Weighed.{size_of_slots};
 ghost use Rattle.coretable.specs.Turns.{Settles};
 
 use crate::settling::settle;
@@ -32,6 +34,7 @@ pub(crate) fn take_out<T: Drop>(desk: &mut Desk<T>, place: usize) -> Result<Take
     ensures taken { IfSome (slice_get desk.old.slots.items place) (λ s. IfOk result (λ r. (r.number ≡ s.number) × (r.clock ≡ s.clock) × (s.talk ≡ Some r.talk))) }
     ensures slots { IfSome (slice_get desk.old.slots.items place) (λ s. desk.new.slots.items ≡ slice_set desk.old.slots.items place (record s { talk = None })) }
     ensures rest { desk.new ≡ record desk.old { slots = desk.new.slots } }
+    ensures size { (size : T → ℕ) → size_of_slots size desk.new.slots.items + size_if_ok (λ taken. size taken.talk) result ≡ size_of_slots size desk.old.slots.items }
 {
     match desk.slots.get_mut(place) {
         Some(slot) => match slot.talk.take() {
@@ -76,9 +79,10 @@ pub(crate) fn begin_time<C: Charge>(
     place: usize,
     at: u64,
 ) -> Result<(Stage<C, Held<C>>, Option<Turn<C>>), Hand<C>>
-    ensures { (t : Terms) (last : ℕ) (handler : Handler) (m : Course) (o : Open) → SetsUp set.now t → IsSound t last handler m → m.under ≡ None → Keeps (StandsFor (charge_by C.amount C.stamp) t) t m desk.old
+    ensures turn { (t : Terms) (last : ℕ) (handler : Handler) (m : Course) (o : Open) → SetsUp set.now t → IsSound t last handler m → m.under ≡ None → Keeps (StandsFor (charge_by C.amount C.stamp) t) t m desk.old
         → slice_get (core_of t m).convos place ≡ Some o → IsSound t last handler (begun m (record { conv = o.id; act = TimeAct at [] [] }))
         → IfOk result (λ r. Settles (charge_by C.amount C.stamp) (StandsFor (charge_by C.amount C.stamp) t) t (begun m (record { conv = o.id; act = TimeAct at [] [] })) desk.new r.0 r.1) }
+    ensures step { IsStep (charge_by C.amount C.stamp) set.now.marks.limit desk.old desk.new nothing result }
 {
     let Ok(taken) = take_out(desk, place) else {
         return Err(Hand::empty());
@@ -103,9 +107,10 @@ pub(crate) fn begin_end<C: Charge>(
     at: u64,
     reason: Reason,
 ) -> Result<(Stage<C, Held<C>>, Option<Turn<C>>), Hand<C>>
-    ensures { (t : Terms) (last : ℕ) (handler : Handler) (m : Course) (o : Open) → SetsUp set.now t → IsSound t last handler m → m.under ≡ None → Keeps (StandsFor (charge_by C.amount C.stamp) t) t m desk.old
+    ensures turn { (t : Terms) (last : ℕ) (handler : Handler) (m : Course) (o : Open) → SetsUp set.now t → IsSound t last handler m → m.under ≡ None → Keeps (StandsFor (charge_by C.amount C.stamp) t) t m desk.old
         → slice_get (core_of t m).convos place ≡ Some o → IsSound t last handler (begun m (record { conv = o.id; act = EndAct at reason [] [] }))
         → IfOk result (λ r. Settles (charge_by C.amount C.stamp) (StandsFor (charge_by C.amount C.stamp) t) t (begun m (record { conv = o.id; act = EndAct at reason [] [] })) desk.new r.0 r.1) }
+    ensures step { IsStep (charge_by C.amount C.stamp) set.now.marks.limit desk.old desk.new nothing result }
 {
     let Ok(taken) = take_out(desk, place) else {
         return Err(Hand::empty());

@@ -12,6 +12,7 @@ ghost use Rattle.convo.specs.Seen.{packet_of};
 ghost use Rattle.streamkey.specs.declared.packet.Packet.{Packet as PacketKept};
 ghost use Rattle.coretable.specs.declared.job.Job.TheVariants as job;
 ghost use Rattle.coretable.specs.Standing.{Keeps};
+ghost use Rattle.coretable.specs.Steps.{IsStep, nothing};
 ghost use Rattle.coretable.specs.Turns.{Settles};
 ghost use Rattle.coretable.specs.Verdicts.{IsPlan};
 
@@ -33,10 +34,11 @@ pub(crate) fn begin_planned<C: Charge>(
     verdict: Verdict,
     now: u64,
 ) -> Result<(Stage<C, Held<C>>, Option<Turn<C>>), Hand<C>>
-    ensures { (t : Terms) (last : ℕ) (handler : Handler) (m : Course) (p : PacketKept) → SetsUp set.now t → IsSound t last handler m → m.under ≡ None → Keeps (StandsFor (charge_by C.amount C.stamp) t) t m desk.old
+    ensures turn { (t : Terms) (last : ℕ) (handler : Handler) (m : Course) (p : PacketKept) → SetsUp set.now t → IsSound t last handler m → m.under ≡ None → Keeps (StandsFor (charge_by C.amount C.stamp) t) t m desk.old
         → desk.old.job ≡ job.Takes p → now ≡ p.now → IsPlan t (core_of t m) (packet_of p) place verdict
         → IsSound t last handler (begun m (packet_line t (packet_of p) (latest_of p.key (core_of t m).convos)))
         → IfOk result (λ r. Settles (charge_by C.amount C.stamp) (StandsFor (charge_by C.amount C.stamp) t) t (begun m (packet_line t (packet_of p) (latest_of p.key (core_of t m).convos))) desk.new r.0 r.1) }
+    ensures step { IsStep (charge_by C.amount C.stamp) set.now.marks.limit desk.old desk.new nothing result }
 {
     match verdict {
         Verdict::Open => begin_new(alloc, set, desk),

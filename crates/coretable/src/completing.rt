@@ -1,5 +1,5 @@
 // An entry that is complete goes to the end of the book.
-ghost use Rattle.std.specs.Prelude.{◌≡◌, ◌==◌, ◌++◌, [], ◌∷◌, ℕ, Some, cond, slice_get, slice_set, IfSome, OnOk};
+ghost use Rattle.std.specs.Prelude.{◌≡◌, ◌+◌, ◌==◌, ◌++◌, [], ◌∷◌, ℕ, Some, None, cond, slice_get, slice_set, IfErr, IfSome, OnOk};
 ghost use Rattle.std.specs.FinMap.{get as moment_in};
 ghost use Rattle.streamdefs.specs.Terms.{Terms};
 ghost use Rattle.streamdefs.specs.Lawful.{Handler};
@@ -12,9 +12,11 @@ ghost use Rattle.flowdir.specs.Boundary.{charge_by};
 ghost use Rattle.coretable.specs.Held.{StandsFor};
 ghost use Rattle.convo.specs.Talk.{SetsUp, talk_after};
 ghost use Rattle.convo.specs.Talk.Phase.{Still};
+ghost use Rattle.coretable.specs.Steps.{IsMoved, size_if_err};
+ghost use Rattle.coretable.specs.Weighed.{size_of_slots, weight_of_active, weight_of_hand};
 ghost use Rattle.coretable.specs.Standing.{Beside, beside, entry_for, owed_place, answered_by, owed_by_kind, Keeps, IsActive};
 
-use crate::{Active, Desk, EntryKind, Held, Memory, Owed};
+use crate::{Active, Desk, EntryKind, Hand, Held, Memory, Owed, Slot};
 use convo::ConvoSet;
 use evring::{Frees, Reason};
 use histbook::{CoreEntry, Entry, LookEntry, Looks};
@@ -75,14 +77,28 @@ fn note_due<T: Drop>(
     }
 }
 
-/// Puts what is kept of a conversation back to its place.
-fn put_back<T: Drop>(desk: &mut Desk<T>, place: usize, clock: u64, talk: T)
-    ensures slots { IfSome (slice_get desk.old.slots.items place) (λ s. desk.new.slots.items ≡ slice_set desk.old.slots.items place (record s { clock = clock; talk = Some talk })) }
+/// Puts what is kept of a conversation into its slot. It comes back from a slot that has something.
+fn put_in<T: Drop>(slot: &mut Slot<T>, clock: u64, talk: T) -> Result<(), T>
+    ensures ok { OnOk result ((slot.old.talk ≡ None) × (slot.new ≡ record slot.old { clock = clock; talk = Some talk })) }
+    ensures err { IfErr result (λ back. (back ≡ talk) × (slot.new ≡ slot.old)) }
+{
+    if slot.talk.is_some() {
+        return Err(talk);
+    }
+    slot.clock = clock;
+    slot.talk = Some(talk);
+    Ok(())
+}
+
+/// Puts what is kept of a conversation back to its place. It comes back where there is no such place.
+fn put_back<T: Drop>(desk: &mut Desk<T>, place: usize, clock: u64, talk: T) -> Result<(), T>
+    ensures slots { OnOk result (IfSome (slice_get desk.old.slots.items place) (λ s. desk.new.slots.items ≡ slice_set desk.old.slots.items place (record s { clock = clock; talk = Some talk }))) }
+    ensures size { (size : T → ℕ) → size_of_slots size desk.new.slots.items + size_if_err size result ≡ size_of_slots size desk.old.slots.items + size talk }
     ensures rest { desk.new ≡ record desk.old { slots = desk.new.slots } }
 {
-    if let Some(slot) = desk.slots.get_mut(place) {
-        slot.clock = clock;
-        slot.talk = Some(talk);
+    match desk.slots.get_mut(place) {
+        Some(slot) => put_in(slot, clock, talk),
+        None => Err(talk),
     }
 }
 
@@ -119,11 +135,12 @@ pub(crate) fn complete<C: Charge>(
     set: &ConvoSet,
     desk: &mut Desk<Held<C>>,
     active: Active<Held<C>>,
-) -> Result<(), Memory>
-    ensures { (t : Terms) (last : ℕ) (handler : Handler) (m : Course) (u : Under) (owed : Beside) → SetsUp set.now t → IsSound t last handler m
+) -> Result<(), Hand<C>>
+    ensures turn { (t : Terms) (last : ℕ) (handler : Handler) (m : Course) (u : Under) (owed : Beside) → SetsUp set.now t → IsSound t last handler m
         → Keeps (StandsFor (charge_by C.amount C.stamp) t) t m desk.old → IsActive t m u active → want_of t m u ≡ Rest
         → StandsFor (charge_by C.amount C.stamp) t active.talk (talk_after t (beside (found_by (core_of t m) u.line) owed) u.line.act) Still
         → OnOk result (Keeps (StandsFor (charge_by C.amount C.stamp) t) t (completed m u) desk.new) }
+    ensures step { IsMoved desk.old desk.new (λ w. weight_of_active w active) (λ w. size_if_err (weight_of_hand w) result) }
 {
     let Active {
         place,
@@ -137,7 +154,14 @@ pub(crate) fn complete<C: Charge>(
     let ending = talk.ending();
     let due = talk.due(set);
     note_due(desk, place, kind, ending);
-    put_back(desk, place, clock, talk);
-    note_moment(desk, place, due)?;
-    enter(desk, number, entry_of(kind, looks, frees))
+    if let Err(talk) = put_back(desk, place, clock, talk) {
+        return Err(Hand::of(talk));
+    }
+    let Ok(()) = note_moment(desk, place, due) else {
+        return Err(Hand::empty());
+    };
+    let Ok(()) = enter(desk, number, entry_of(kind, looks, frees)) else {
+        return Err(Hand::empty());
+    };
+    Ok(())
 }

@@ -8,6 +8,7 @@ ghost use Rattle.flowdir.specs.Boundary.{charge_by};
 ghost use Rattle.coretable.specs.Held.{StandsFor};
 ghost use Rattle.convo.specs.Talk.{SetsUp};
 ghost use Rattle.coretable.specs.Standing.{Keeps};
+ghost use Rattle.coretable.specs.Steps.{IsStep, nothing};
 ghost use Rattle.coretable.specs.Turns.{Moves};
 
 use crate::beginning::begin_end;
@@ -23,9 +24,10 @@ pub(crate) fn begin_owed<C: Charge>(
     desk: &mut Desk<Held<C>>,
     owed: Owed,
 ) -> Result<(Stage<C, Held<C>>, Option<Turn<C>>), Hand<C>>
-    ensures { (t : Terms) (last : ℕ) (handler : Handler) (m : Course) → SetsUp set.now t → IsSound t last handler m → m.under ≡ None → Keeps (StandsFor (charge_by C.amount C.stamp) t) t m desk.old
+    ensures turn { (t : Terms) (last : ℕ) (handler : Handler) (m : Course) → SetsUp set.now t → IsSound t last handler m → m.under ≡ None → Keeps (StandsFor (charge_by C.amount C.stamp) t) t m desk.old
         → desk.old.owed ≡ Some owed → has_room (core_of t m) ≡ true
         → IfOk result (λ r. Moves (charge_by C.amount C.stamp) (StandsFor (charge_by C.amount C.stamp) t) t m desk.new r.0 r.1) }
+    ensures step { IsStep (charge_by C.amount C.stamp) set.now.marks.limit desk.old desk.new nothing result }
 {
     begin_end(alloc, set, desk, owed.place, owed.at, owed.reason)
 }

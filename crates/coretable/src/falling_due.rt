@@ -12,6 +12,7 @@ ghost use Rattle.convo.specs.Talk.{SetsUp};
 ghost use Rattle.convo.specs.Talk.Phase.{Still};
 ghost use Rattle.convo.specs.Talk.{Talk, due_of};
 ghost use Rattle.coretable.specs.Standing.{Keeps};
+ghost use Rattle.coretable.specs.Steps.{IsStep, nothing};
 ghost use Rattle.coretable.specs.Turns.{Moves};
 ghost use Rattle.coretable.specs.Falling.{IsDueFirst};
 
@@ -68,9 +69,10 @@ pub(crate) fn begin_due<C: Charge>(
     desk: &mut Desk<Held<C>>,
     place: usize,
 ) -> Result<(Stage<C, Held<C>>, Option<Turn<C>>), Hand<C>>
-    ensures { (t : Terms) (last : ℕ) (handler : Handler) (m : Course) (o : Open) (d : DueOf) → SetsUp set.now t → IsSound t last handler m → m.under ≡ None → Keeps (StandsFor (charge_by C.amount C.stamp) t) t m desk.old
+    ensures turn { (t : Terms) (last : ℕ) (handler : Handler) (m : Course) (o : Open) (d : DueOf) → SetsUp set.now t → IsSound t last handler m → m.under ≡ None → Keeps (StandsFor (charge_by C.amount C.stamp) t) t m desk.old
         → slice_get (core_of t m).convos place ≡ Some o → d.conv ≡ o.id → due_of t o.convo ≡ Some (d.at, d.idle) → step t m ≡ Goes (begun m (due_line d))
         → IfOk result (λ r. Moves (charge_by C.amount C.stamp) (StandsFor (charge_by C.amount C.stamp) t) t m desk.new r.0 r.1) }
+    ensures step { IsStep (charge_by C.amount C.stamp) set.now.marks.limit desk.old desk.new nothing result }
 {
     let Ok((at, idle)) = due_at(set, desk, place) else {
         return Err(Hand::empty());

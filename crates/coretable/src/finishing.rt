@@ -11,6 +11,7 @@ ghost use Rattle.flowdir.specs.Boundary.{charge_by};
 ghost use Rattle.coretable.specs.Held.{StandsFor};
 ghost use Rattle.convo.specs.Talk.{SetsUp};
 ghost use Rattle.convo.specs.Talk.Phase.{Still};
+ghost use Rattle.coretable.specs.Steps.{IsStep, nothing};
 ghost use Rattle.coretable.specs.Turns.{Moves};
 ghost use Rattle.coretable.specs.Standing.{AreEnded, Keeps};
 ghost use Rattle.coretable.specs.Verdicts.{IsFirst};
@@ -66,7 +67,8 @@ pub(crate) fn find_live<C: Charge>(desk: &Desk<Held<C>>) -> Result<Option<usize>
 
 /// From now on the first live conversation is looked for from a place on.
 pub(crate) fn look_from<C: Charge>(desk: &mut Desk<Held<C>>, place: usize)
-    ensures { (t : Terms) (m : Course) → m.under ≡ None → Keeps (StandsFor (charge_by C.amount C.stamp) t) t m desk.old → AreEnded place (core_of t m).convos → Keeps (StandsFor (charge_by C.amount C.stamp) t) t m desk.new }
+    ensures turn { (t : Terms) (m : Course) → m.under ≡ None → Keeps (StandsFor (charge_by C.amount C.stamp) t) t m desk.old → AreEnded place (core_of t m).convos → Keeps (StandsFor (charge_by C.amount C.stamp) t) t m desk.new }
+    ensures rest { desk.new ≡ record desk.old { cursor = place } }
 {
     desk.cursor = place;
 }
@@ -79,9 +81,10 @@ pub(crate) fn begin_first<C: Charge>(
     place: usize,
     at: u64,
 ) -> Result<(Stage<C, Held<C>>, Option<Turn<C>>), Hand<C>>
-    ensures { (t : Terms) (last : ℕ) (handler : Handler) (m : Course) (o : Open) → SetsUp set.now t → IsSound t last handler m → m.under ≡ None → Keeps (StandsFor (charge_by C.amount C.stamp) t) t m desk.old
+    ensures turn { (t : Terms) (last : ℕ) (handler : Handler) (m : Course) (o : Open) → SetsUp set.now t → IsSound t last handler m → m.under ≡ None → Keeps (StandsFor (charge_by C.amount C.stamp) t) t m desk.old
         → (core_of t m).owed ≡ None → m.job ≡ Closes at → due_by t (core_of t m) at ≡ None → first_live (core_of t m).convos ≡ Some o → slice_get (core_of t m).convos place ≡ Some o
         → has_room (core_of t m) ≡ true → IfOk result (λ r. Moves (charge_by C.amount C.stamp) (StandsFor (charge_by C.amount C.stamp) t) t m desk.new r.0 r.1) }
+    ensures step { IsStep (charge_by C.amount C.stamp) set.now.marks.limit desk.old desk.new nothing result }
 {
     begin_end(alloc, set, desk, place, at, Reason::Finish)
 }

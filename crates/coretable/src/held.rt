@@ -13,7 +13,7 @@ ghost use Rattle.flowdir.specs.Boundary.{IsLookOf, charge_by, weight_of};
 ghost use Rattle.convo.specs.Weights.{weight_of_want, weight_of_chunks};
 ghost use Rattle.convo.specs.Talk.{Talk, SetsUp, IsAnswerTo, IsWantOf, asked_in, due_of, new_talk};
 ghost use Rattle.convo.specs.Talk.Phase.{Still, Under};
-ghost use Rattle.convo.specs.Standing.{IsRest, weight_of_convo};
+ghost use Rattle.convo.specs.Standing.{IsAskWithin, IsRest, weight_of_convo};
 ghost use Rattle.convo.specs.Seen.{packet_of};
 ghost use Rattle.coretable.specs.Held.{StandsFor, weight_of_some};
 
@@ -104,6 +104,7 @@ impl<C: Charge> Held<C> {
     pub(crate) fn take(&mut self, set: &ConvoSet, packet: &Packet) -> Result<Want<C>, Memory>
         ensures turn { IfOk result (λ want. (t : Terms) (k : Talk) → SetsUp set.now t → StandsFor (charge_by C.amount C.stamp) t self.old k Still
             → IsWantOf (charge_by C.amount C.stamp) (StandsFor (charge_by C.amount C.stamp) t self.new) t k (SegAct (packet_of packet.entry.now) packet.entry.now.now [] []) 0 want) }
+        ensures within { IfOk result (IsAskWithin set.now.marks.limit) }
         ensures weight { IfOk result (λ want. (w : C → ℕ) → weight_of_convo w self.new + weight_of_want w want ≡ weight_of_convo w self.old) }
         ensures err { OnErr result ((w : C → ℕ) → weight_of_convo w self.new ≡ weight_of_convo w self.old) }
     {
@@ -126,6 +127,7 @@ impl<C: Charge> Held<C> {
         ensures turn { IfOk result (λ w. (t : Terms) (k : Talk) (act : Act) (emitted : ℕ) (look : LookEntry) (request : Request) (mark : ℕ) → SetsUp set.now t
             → StandsFor (charge_by C.amount C.stamp) t self.old k (Under act emitted) → want t k.convo act emitted ≡ Reserve request mark → IsLookOf (charge_by C.amount C.stamp) granted look
             → IsWantOf (charge_by C.amount C.stamp) (StandsFor (charge_by C.amount C.stamp) t self.new) t k (with_look look act) emitted w) }
+        ensures within { IfOk result (IsAskWithin set.now.marks.limit) }
         ensures weight { IfOk result (λ want. (w : C → ℕ) → weight_of_convo w self.new + weight_of_want w want ≡ weight_of_convo w self.old + weight_of w granted) }
         ensures err { IfErr result (λ back. (w : C → ℕ) → weight_of_convo w self.new + weight_of w back ≡ weight_of_convo w self.old + weight_of w granted) }
     {
@@ -147,6 +149,7 @@ impl<C: Charge> Held<C> {
         ensures turn { IfOk result (λ w. (t : Terms) (k : Talk) (act : Act) (emitted : ℕ) (free : Free) (charge : ChargeMade) → SetsUp set.now t
             → StandsFor (charge_by C.amount C.stamp) t self.old k (Under act emitted) → want t k.convo act emitted ≡ Release charge
             → IsWantOf (charge_by C.amount C.stamp) (StandsFor (charge_by C.amount C.stamp) t self.new) t k (with_free free act) emitted w) }
+        ensures within { IfOk result (IsAskWithin set.now.marks.limit) }
         ensures weight { IfOk result (λ want. (w : C → ℕ) → weight_of_convo w self.new + weight_of_want w want ≡ weight_of_convo w self.old) }
         ensures err { OnErr result ((w : C → ℕ) → weight_of_convo w self.new ≡ weight_of_convo w self.old) }
     {
@@ -168,6 +171,7 @@ impl<C: Charge> Held<C> {
         ensures turn { IfOk result (λ w. (t : Terms) (k : Talk) (act : Act) (emitted : ℕ) (event : EventMade) → SetsUp set.now t
             → StandsFor (charge_by C.amount C.stamp) t self.old k (Under act emitted) → want t k.convo act emitted ≡ EmitWanted event
             → IsWantOf (charge_by C.amount C.stamp) (StandsFor (charge_by C.amount C.stamp) t self.new) t k act (suc emitted) w) }
+        ensures within { IfOk result (IsAskWithin set.now.marks.limit) }
         ensures weight { IfOk result (λ want. (w : C → ℕ) → weight_of_convo w self.new + weight_of_want w want ≡ weight_of_convo w self.old) }
         ensures err { OnErr result ((w : C → ℕ) → weight_of_convo w self.new ≡ weight_of_convo w self.old) }
     {
@@ -188,6 +192,7 @@ impl<C: Charge> Held<C> {
     pub(crate) fn time(&mut self, set: &ConvoSet, at: u64) -> Result<Want<C>, Memory>
         ensures turn { IfOk result (λ want. (t : Terms) (k : Talk) → SetsUp set.now t → StandsFor (charge_by C.amount C.stamp) t self.old k Still
             → IsWantOf (charge_by C.amount C.stamp) (StandsFor (charge_by C.amount C.stamp) t self.new) t k (TimeAct at [] []) 0 want) }
+        ensures within { IfOk result (IsAskWithin set.now.marks.limit) }
         ensures weight { IfOk result (λ want. (w : C → ℕ) → weight_of_convo w self.new + weight_of_want w want ≡ weight_of_convo w self.old) }
         ensures err { OnErr result ((w : C → ℕ) → weight_of_convo w self.new ≡ weight_of_convo w self.old) }
     {
@@ -208,6 +213,7 @@ impl<C: Charge> Held<C> {
     pub(crate) fn end(&mut self, set: &ConvoSet, at: u64, reason: Reason) -> Result<Want<C>, Memory>
         ensures turn { IfOk result (λ want. (t : Terms) (k : Talk) → SetsUp set.now t → StandsFor (charge_by C.amount C.stamp) t self.old k Still
             → IsWantOf (charge_by C.amount C.stamp) (StandsFor (charge_by C.amount C.stamp) t self.new) t k (EndAct at reason [] []) 0 want) }
+        ensures within { IfOk result (IsAskWithin set.now.marks.limit) }
         ensures weight { IfOk result (λ want. (w : C → ℕ) → weight_of_convo w self.new + weight_of_want w want ≡ weight_of_convo w self.old) }
         ensures err { OnErr result ((w : C → ℕ) → weight_of_convo w self.new ≡ weight_of_convo w self.old) }
     {
@@ -234,6 +240,7 @@ impl<C: Charge> Held<C> {
         ensures turn { IfOk result (λ want. (t : Terms) (k : Talk) (e : EventMade) (n : ℕ) (frees : List Free) → StandsFor (charge_by C.amount C.stamp) t self.old k Still
             → IsAnswerTo (charge_by C.amount C.stamp) k.convo of advice frees kept e
             → IsWantOf (charge_by C.amount C.stamp) (StandsFor (charge_by C.amount C.stamp) t self.new) t k (AnswerAct n advice frees) 0 want) }
+        ensures within { IfOk result (λ want. (limit : ℕ) → IsAskWithin limit want) }
         ensures weight { IfOk result (λ want. (w : C → ℕ) → weight_of_convo w self.new + weight_of_want w want ≡ weight_of_convo w self.old + weight_of_chunks w kept) }
         ensures err { IfErr result (λ back. (w : C → ℕ) → weight_of_convo w self.new + weight_of_some w back ≡ weight_of_convo w self.old + weight_of_chunks w kept) }
     {

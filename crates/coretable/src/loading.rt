@@ -10,7 +10,9 @@ ghost use Rattle.convo.specs.Talk.{SetsUp};
 ghost use Rattle.convo.specs.Seen.{packet_of};
 ghost use Rattle.streamkey.specs.declared.packet.Packet.{Packet as PacketKept};
 ghost use Rattle.coretable.specs.declared.job.Job.TheVariants as job;
+ghost use Rattle.coretable.specs.declared.stage.Stage.TheVariants as stage_of;
 ghost use Rattle.coretable.specs.Standing.{Keeps};
+ghost use Rattle.coretable.specs.Steps.{IsStep, nothing};
 ghost use Rattle.coretable.specs.Turns.{AtWant, IsAt, Moves};
 ghost use Rattle.coretable.specs.Verdicts.{IsPlan};
 ghost use Rattle.streamdefs.specs.Want.Want.{Reserve, Release};
@@ -28,14 +30,16 @@ use streamkey::Packet;
 
 /// Loads a packet.
 pub fn load<C: Charge>(desk: &mut Desk<Held<C>>, packet: Packet)
-    ensures { (t : Terms) (m : Course) → m.under ≡ None → Keeps (StandsFor (charge_by C.amount C.stamp) t) t m desk.old → Keeps (StandsFor (charge_by C.amount C.stamp) t) t (loaded m (packet_of packet)) desk.new }
+    ensures rest { desk.new ≡ record desk.old { job = job.Takes packet } }
+    ensures turn { (t : Terms) (m : Course) → m.under ≡ None → Keeps (StandsFor (charge_by C.amount C.stamp) t) t m desk.old → Keeps (StandsFor (charge_by C.amount C.stamp) t) t (loaded m (packet_of packet)) desk.new }
 {
     desk.job = Job::Takes(packet);
 }
 
 /// Loads the end of the capture.
 pub fn load_end<C: Charge>(desk: &mut Desk<Held<C>>, now: u64)
-    ensures { (t : Terms) (m : Course) → m.under ≡ None → Keeps (StandsFor (charge_by C.amount C.stamp) t) t m desk.old → Keeps (StandsFor (charge_by C.amount C.stamp) t) t (closing m now) desk.new }
+    ensures rest { desk.new ≡ record desk.old { job = job.Closes now } }
+    ensures turn { (t : Terms) (m : Course) → m.under ≡ None → Keeps (StandsFor (charge_by C.amount C.stamp) t) t m desk.old → Keeps (StandsFor (charge_by C.amount C.stamp) t) t (closing m now) desk.new }
 {
     desk.job = Job::Closes(now);
 }
@@ -58,9 +62,10 @@ pub(crate) fn begin_next<C: Charge>(
     desk: &mut Desk<Held<C>>,
     now: u64,
 ) -> Result<(Stage<C, Held<C>>, Option<Turn<C>>), Hand<C>>
-    ensures { (t : Terms) (last : ℕ) (handler : Handler) (m : Course) (p : PacketKept) → SetsUp set.now t → IsSound t last handler m → m.under ≡ None → Keeps (StandsFor (charge_by C.amount C.stamp) t) t m desk.old
+    ensures turn { (t : Terms) (last : ℕ) (handler : Handler) (m : Course) (p : PacketKept) → SetsUp set.now t → IsSound t last handler m → m.under ≡ None → Keeps (StandsFor (charge_by C.amount C.stamp) t) t m desk.old
         → desk.old.job ≡ job.Takes p → now ≡ p.now → (core_of t m).owed ≡ None → due_by t (core_of t m) now ≡ None → has_room (core_of t m) ≡ true
         → IfOk result (λ r. Moves (charge_by C.amount C.stamp) (StandsFor (charge_by C.amount C.stamp) t) t m desk.new r.0 r.1) }
+    ensures step { IsStep (charge_by C.amount C.stamp) set.now.marks.limit desk.old desk.new nothing result }
 {
     let Ok((place, verdict)) = plan_job(set, desk) else {
         return Err(Hand::empty());
@@ -76,7 +81,8 @@ pub fn grant<C: Charge>(
     charge: C,
     look: Look,
 ) -> Stage<C, Held<C>>
-    ensures { (t : Terms) (m : Course) (request : Request) (mark : ℕ) (at : AtWant (StandsFor (charge_by C.amount C.stamp) t) t m desk.entry.now active (Reserve request mark)) → C.amount charge ≡ bytes → C.stamp charge ≡ look.stamp
+    ensures is { result ≡ stage_of.Told active (record { asked = bytes; granted = true; look = look }) (Some charge) }
+    ensures turn { (t : Terms) (m : Course) (request : Request) (mark : ℕ) (at : AtWant (StandsFor (charge_by C.amount C.stamp) t) t m desk.entry.now active (Reserve request mark)) → C.amount charge ≡ bytes → C.stamp charge ≡ look.stamp
         → IsAt (charge_by C.amount C.stamp) (StandsFor (charge_by C.amount C.stamp) t) t (looked m at.u (record { asked = bytes; granted = true; look = look })) desk.entry.now result }
 {
     Stage::Told {
@@ -97,7 +103,8 @@ pub fn refuse<C: Charge>(
     bytes: u32,
     look: Look,
 ) -> Stage<C, Held<C>>
-    ensures { (t : Terms) (m : Course) (request : Request) (mark : ℕ) (at : AtWant (StandsFor (charge_by C.amount C.stamp) t) t m desk.entry.now active (Reserve request mark))
+    ensures is { result ≡ stage_of.Told active (record { asked = bytes; granted = false; look = look }) None }
+    ensures turn { (t : Terms) (m : Course) (request : Request) (mark : ℕ) (at : AtWant (StandsFor (charge_by C.amount C.stamp) t) t m desk.entry.now active (Reserve request mark))
         → IsAt (charge_by C.amount C.stamp) (StandsFor (charge_by C.amount C.stamp) t) t (looked m at.u (record { asked = bytes; granted = false; look = look })) desk.entry.now result }
 {
     Stage::Told {
@@ -117,7 +124,8 @@ pub fn give_back<C: Charge>(
     active: Active<Held<C>>,
     free: Free,
 ) -> Stage<C, Held<C>>
-    ensures { (t : Terms) (m : Course) (charge : ChargeMade) (at : AtWant (StandsFor (charge_by C.amount C.stamp) t) t m desk.entry.now active (Release charge))
+    ensures is { result ≡ stage_of.Freed active free }
+    ensures turn { (t : Terms) (m : Course) (charge : ChargeMade) (at : AtWant (StandsFor (charge_by C.amount C.stamp) t) t m desk.entry.now active (Release charge))
         → IsAt (charge_by C.amount C.stamp) (StandsFor (charge_by C.amount C.stamp) t) t (freed m at.u free) desk.entry.now result }
 {
     Stage::Freed { active, free }

@@ -14,6 +14,8 @@ ghost use Rattle.convo.specs.Seen.{packet_of};
 ghost use Rattle.streamkey.specs.declared.packet.Packet.{Packet as PacketKept};
 ghost use Rattle.coretable.specs.declared.job.Job.TheVariants as job;
 ghost use Rattle.coretable.specs.Standing.{place_of, Keeps};
+ghost use Rattle.coretable.specs.Steps.{IsStep, nothing};
+ghost use Rattle.coretable.specs.Weighed.{size_of_slots};
 ghost use Rattle.coretable.specs.Turns.{Settles};
 
 use crate::beginning::active_of;
@@ -29,6 +31,7 @@ use streamkey::Key;
 fn add_slot<T: Drop>(desk: &mut Desk<T>, number: u32, key: Key, clock: u64) -> Result<usize, Memory>
     ensures place { IfOk result (λ place. place ≡ length desk.old.slots.items) }
     ensures slots { OnOk result (desk.new.slots.items ≡ desk.old.slots.items ++ record { number = number; key = key; clock = clock; talk = None } ∷ []) }
+    ensures size { (size : T → ℕ) → size_of_slots size desk.new.slots.items ≡ size_of_slots size desk.old.slots.items }
     ensures rest { desk.new ≡ record desk.old { slots = desk.new.slots; cursor = 0 } }
 {
     desk.cursor = 0;
@@ -57,9 +60,10 @@ pub(crate) fn begin_new<C: Charge>(
     set: &ConvoSet,
     desk: &mut Desk<Held<C>>,
 ) -> Result<(Stage<C, Held<C>>, Option<Turn<C>>), Hand<C>>
-    ensures { (t : Terms) (last : ℕ) (handler : Handler) (m : Course) (p : PacketKept) → SetsUp set.now t → IsSound t last handler m → m.under ≡ None → Keeps (StandsFor (charge_by C.amount C.stamp) t) t m desk.old
+    ensures turn { (t : Terms) (last : ℕ) (handler : Handler) (m : Course) (p : PacketKept) → SetsUp set.now t → IsSound t last handler m → m.under ≡ None → Keeps (StandsFor (charge_by C.amount C.stamp) t) t m desk.old
         → desk.old.job ≡ job.Takes p → IsSound t last handler (begun m (record { conv = p.number; act = SegAct (packet_of p) p.now [] [] }))
         → IfOk result (λ r. Settles (charge_by C.amount C.stamp) (StandsFor (charge_by C.amount C.stamp) t) t (begun m (record { conv = p.number; act = SegAct (packet_of p) p.now [] [] })) desk.new r.0 r.1) }
+    ensures step { IsStep (charge_by C.amount C.stamp) set.now.marks.limit desk.old desk.new nothing result }
 {
     let Ok(packet) = take_packet(desk) else {
         return Err(Hand::empty());

@@ -1,5 +1,5 @@
 // An answer comes back.
-ghost use Rattle.std.specs.Prelude.{◌≡◌, [], ◌∷◌, ℕ, List, Some, None, suc, length, map, slice_get, IfOk, IfSome, IfNone, OnOk};
+ghost use Rattle.std.specs.Prelude.{◌≡◌, ◌≤◌, ◌+◌, [], ◌∷◌, ℕ, List, Some, None, false, suc, length, map, slice_get, IfOk, IfErr, IfSome, IfNone};
 ghost use Rattle.prio_budget.specs.declared.free.Free.{Free as FreeDone};
 ghost use Rattle.chunkpart.specs.ChunkParts.{ChunkParts};
 ghost use Rattle.streamdefs.specs.Terms.{Terms};
@@ -17,6 +17,13 @@ ghost use Rattle.convo.specs.Talk.Phase.{Still};
 ghost use Rattle.convo.specs.Seen.{kept_for};
 ghost use Rattle.coretable.specs.declared.unanswered.Unanswered.{Unanswered as Waits};
 ghost use Rattle.coretable.specs.Standing.{Keeps};
+ghost use Rattle.convo.specs.Standing.{IsAskWithin};
+ghost use Rattle.convo.specs.Weights.{weight_of_chunks, weight_of_want};
+ghost use Rattle.coretable.specs.declared.pause.Pause.TheVariants as pause;
+ghost use Rattle.coretable.specs.Held.{weight_of_some};
+ghost use Rattle.coretable.specs.Fits.{is_closing, is_rest_at, pause_at, unanswered_of};
+ghost use Rattle.coretable.specs.Steps.{IsStep};
+ghost use Rattle.coretable.specs.Weighed.{weight_of_active, weight_of_begun, weight_of_desk};
 ghost use Rattle.coretable.specs.Turns.{AtAnswer, IsAt, Settles};
 
 use crate::beginning::take_out;
@@ -38,6 +45,9 @@ fn tell_back<C: Charge>(
         → IsAnswerTo (charge_by C.amount C.stamp) k.convo of advice frees kept e
         → IsWantOf (charge_by C.amount C.stamp) (StandsFor (charge_by C.amount C.stamp) t active.new.talk) t k (AnswerAct n advice frees) 0 want) }
     ensures rest { active.new ≡ record active.old { talk = active.new.talk } }
+    ensures within { IfOk result (λ want. (limit : ℕ) → IsAskWithin limit want) }
+    ensures weight { IfOk result (λ want. (w : C → ℕ) → weight_of_active w active.new + weight_of_want w want ≡ weight_of_active w active.old + weight_of_chunks w kept) }
+    ensures err { IfErr result (λ back. (w : C → ℕ) → weight_of_active w active.new + weight_of_some w back ≡ weight_of_active w active.old + weight_of_chunks w kept) }
 {
     active.talk.back(of, advice, kept)
 }
@@ -51,9 +61,10 @@ pub(crate) fn go_on_returned<C: Charge>(
     advice: Advice,
     kept: Kept<C>,
 ) -> Result<(Stage<C, Held<C>>, Option<Turn<C>>), Hand<C>>
-    ensures { (t : Terms) (last : ℕ) (handler : Handler) (m : Course) → IsSound t last handler m → SetsUp set.now t
+    ensures turn { (t : Terms) (last : ℕ) (handler : Handler) (m : Course) → IsSound t last handler m → SetsUp set.now t
         → AtAnswer (charge_by C.amount C.stamp) (StandsFor (charge_by C.amount C.stamp) t) t m desk.old active of advice kept
         → IfOk result (λ r. Settles (charge_by C.amount C.stamp) (StandsFor (charge_by C.amount C.stamp) t) t m desk.new r.0 r.1) }
+    ensures step { IsStep (charge_by C.amount C.stamp) set.now.marks.limit desk.old desk.new (λ w. weight_of_active w active + weight_of_chunks w kept) result }
 {
     let mut active = active;
     match tell_back(&mut active, of, advice, kept) {
@@ -84,10 +95,14 @@ pub fn begin_back<C: Charge>(
     desk: &mut Desk<Held<C>>,
     answer: Answer<C>,
 ) -> Result<Stage<C, Held<C>>, Hand<C>>
-    ensures { (t : Terms) (last : ℕ) (handler : Handler) (m : Course) (told : Told) → IsSound t last handler m → m.under ≡ None → Keeps (StandsFor (charge_by C.amount C.stamp) t) t m desk.old
+    ensures turn { (t : Terms) (last : ℕ) (handler : Handler) (m : Course) (told : Told) → IsSound t last handler m → m.under ≡ None → Keeps (StandsFor (charge_by C.amount C.stamp) t) t m desk.old
         → slice_get (core_of t m).events (core_of t m).answered ≡ Some told → length answer.frees ≡ length (owed_for answer.advice told.event)
         → map (kept_for (charge_by C.amount C.stamp)) answer.kept ≡ back_with answer.advice told.event
         → IfOk result (λ stage. IsAt (charge_by C.amount C.stamp) (StandsFor (charge_by C.amount C.stamp) t) t (begun m (answer_line (core_of t m) told.conv answer.advice answer.frees)) desk.new stage) }
+    ensures fits { IfOk result (λ stage. (pause_at stage ≡ pause.Still) × (is_rest_at stage ≡ false)) }
+    ensures closing { is_closing desk.new.job ≡ is_closing desk.old.job }
+    ensures unanswered { 1 ≤ unanswered_of desk.old → suc (unanswered_of desk.new) ≡ unanswered_of desk.old }
+    ensures weight { (w : C → ℕ) → weight_of_desk w desk.new + weight_of_begun w result ≡ weight_of_desk w desk.old + weight_of_chunks w answer.kept }
 {
     let Answer {
         advice,
@@ -95,10 +110,10 @@ pub fn begin_back<C: Charge>(
         kept,
         ..
     } = answer;
-    let Some(event) = next_answer(desk) else {
+    let Some(waits) = pop_event(desk) else {
         return Err(Hand::of_kept(kept));
     };
-    let Some(waits) = pop_event(desk) else {
+    let Some(event) = next_answer(desk) else {
         return Err(Hand::of_kept(kept));
     };
     let Ok(taken) = take_out(desk, waits.place) else {

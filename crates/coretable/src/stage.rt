@@ -1,3 +1,6 @@
+ghost use Rattle.std.specs.Prelude.{◌≡◌};
+ghost use Rattle.coretable.specs.Fits.{is_rest_at};
+
 use crate::Active;
 use convo::AnsweredEvent;
 use evring::{Advice, Kept};
@@ -46,4 +49,22 @@ pub enum Stage<C: Charge, T: Drop> {
     Emitted {
         active: Active<T>,
     },
+}
+
+impl<C: Charge, T: Drop> Stage<C, T> {
+    /// Whether no entry is under way.
+    pub(crate) fn is_rest(&self) -> bool
+        ensures { result ≡ is_rest_at self.now }
+    {
+        match self {
+            Stage::Rests => true,
+            Stage::Returned { .. }
+            | Stage::Asked { .. }
+            | Stage::Again { .. }
+            | Stage::Told { .. }
+            | Stage::Freeing { .. }
+            | Stage::Freed { .. }
+            | Stage::Emitted { .. } => false,
+        }
+    }
 }

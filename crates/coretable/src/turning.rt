@@ -1,5 +1,5 @@
 // What a table comes to next where no entry is under way.
-ghost use Rattle.std.specs.Prelude.{◌≡◌, ℕ, None, Some, IfOk};
+ghost use Rattle.std.specs.Prelude.{◌≡◌, ℕ, None, Some, true, IfOk};
 ghost use Rattle.streamdefs.specs.Terms.{Terms};
 ghost use Rattle.streamdefs.specs.Lawful.{Handler};
 ghost use Rattle.coretable.specs.Course.{Course, core_of, due_by};
@@ -11,6 +11,8 @@ ghost use Rattle.convo.specs.Talk.{SetsUp};
 ghost use Rattle.streamkey.specs.declared.packet.Packet.{Packet as PacketKept};
 ghost use Rattle.coretable.specs.declared.job.Job.TheVariants as job;
 ghost use Rattle.coretable.specs.Standing.{Keeps};
+ghost use Rattle.coretable.specs.Fits.{is_closing};
+ghost use Rattle.coretable.specs.Steps.{IsStep, nothing};
 ghost use Rattle.coretable.specs.Turns.{Moves};
 ghost use Rattle.coretable.specs.Falling.{IsDueThere};
 ghost use Rattle.coretable.specs.Verdicts.{IsFirst};
@@ -32,8 +34,9 @@ pub(crate) fn turn_owed<C: Charge>(
     desk: &mut Desk<Held<C>>,
     owed: Owed,
 ) -> Result<(Stage<C, Held<C>>, Option<Turn<C>>), Hand<C>>
-    ensures { (t : Terms) (last : ℕ) (handler : Handler) (m : Course) → SetsUp set.now t → IsSound t last handler m → m.under ≡ None → Keeps (StandsFor (charge_by C.amount C.stamp) t) t m desk.old
+    ensures turn { (t : Terms) (last : ℕ) (handler : Handler) (m : Course) → SetsUp set.now t → IsSound t last handler m → m.under ≡ None → Keeps (StandsFor (charge_by C.amount C.stamp) t) t m desk.old
         → desk.old.owed ≡ Some owed → IfOk result (λ r. Moves (charge_by C.amount C.stamp) (StandsFor (charge_by C.amount C.stamp) t) t m desk.new r.0 r.1) }
+    ensures step { IsStep (charge_by C.amount C.stamp) set.now.marks.limit desk.old desk.new nothing result }
 {
     if is_full(desk) {
         return Ok(fill(desk));
@@ -53,6 +56,7 @@ fn turn_due<C: Charge>(
         → desk.old.job ≡ job.Takes p → now ≡ p.now → (core_of t m).owed ≡ None → IsDueThere t (core_of t m) now place → IfOk result (λ r. Moves (charge_by C.amount C.stamp) (StandsFor (charge_by C.amount C.stamp) t) t m desk.new r.0 r.1) }
     ensures end { (t : Terms) (last : ℕ) (handler : Handler) (m : Course) → SetsUp set.now t → IsSound t last handler m → m.under ≡ None → Keeps (StandsFor (charge_by C.amount C.stamp) t) t m desk.old
         → m.job ≡ Closes now → (core_of t m).owed ≡ None → IsDueThere t (core_of t m) now place → IfOk result (λ r. Moves (charge_by C.amount C.stamp) (StandsFor (charge_by C.amount C.stamp) t) t m desk.new r.0 r.1) }
+    ensures step { IsStep (charge_by C.amount C.stamp) set.now.marks.limit desk.old desk.new nothing result }
 {
     if is_full(desk) {
         return Ok(fill(desk));
@@ -67,8 +71,9 @@ fn turn_next<C: Charge>(
     desk: &mut Desk<Held<C>>,
     now: u64,
 ) -> Result<(Stage<C, Held<C>>, Option<Turn<C>>), Hand<C>>
-    ensures { (t : Terms) (last : ℕ) (handler : Handler) (m : Course) (p : PacketKept) → SetsUp set.now t → IsSound t last handler m → m.under ≡ None → Keeps (StandsFor (charge_by C.amount C.stamp) t) t m desk.old
+    ensures turn { (t : Terms) (last : ℕ) (handler : Handler) (m : Course) (p : PacketKept) → SetsUp set.now t → IsSound t last handler m → m.under ≡ None → Keeps (StandsFor (charge_by C.amount C.stamp) t) t m desk.old
         → desk.old.job ≡ job.Takes p → now ≡ p.now → (core_of t m).owed ≡ None → due_by t (core_of t m) now ≡ None → IfOk result (λ r. Moves (charge_by C.amount C.stamp) (StandsFor (charge_by C.amount C.stamp) t) t m desk.new r.0 r.1) }
+    ensures step { IsStep (charge_by C.amount C.stamp) set.now.marks.limit desk.old desk.new nothing result }
 {
     if is_full(desk) {
         return Ok(fill(desk));
@@ -83,8 +88,9 @@ fn turn_packet<C: Charge>(
     desk: &mut Desk<Held<C>>,
     now: u64,
 ) -> Result<(Stage<C, Held<C>>, Option<Turn<C>>), Hand<C>>
-    ensures { (t : Terms) (last : ℕ) (handler : Handler) (m : Course) (p : PacketKept) → SetsUp set.now t → IsSound t last handler m → m.under ≡ None → Keeps (StandsFor (charge_by C.amount C.stamp) t) t m desk.old
+    ensures turn { (t : Terms) (last : ℕ) (handler : Handler) (m : Course) (p : PacketKept) → SetsUp set.now t → IsSound t last handler m → m.under ≡ None → Keeps (StandsFor (charge_by C.amount C.stamp) t) t m desk.old
         → desk.old.job ≡ job.Takes p → now ≡ p.now → (core_of t m).owed ≡ None → IfOk result (λ r. Moves (charge_by C.amount C.stamp) (StandsFor (charge_by C.amount C.stamp) t) t m desk.new r.0 r.1) }
+    ensures step { IsStep (charge_by C.amount C.stamp) set.now.marks.limit desk.old desk.new nothing result }
 {
     match first_due(desk, now) {
         Some(place) => turn_due(alloc, set, desk, place, now),
@@ -100,8 +106,9 @@ fn turn_first<C: Charge>(
     place: usize,
     at: u64,
 ) -> Result<(Stage<C, Held<C>>, Option<Turn<C>>), Hand<C>>
-    ensures { (t : Terms) (last : ℕ) (handler : Handler) (m : Course) → SetsUp set.now t → IsSound t last handler m → m.under ≡ None → Keeps (StandsFor (charge_by C.amount C.stamp) t) t m desk.old
+    ensures turn { (t : Terms) (last : ℕ) (handler : Handler) (m : Course) → SetsUp set.now t → IsSound t last handler m → m.under ≡ None → Keeps (StandsFor (charge_by C.amount C.stamp) t) t m desk.old
         → (core_of t m).owed ≡ None → m.job ≡ Closes at → due_by t (core_of t m) at ≡ None → IsFirst (core_of t m) (Some place) → IfOk result (λ r. Moves (charge_by C.amount C.stamp) (StandsFor (charge_by C.amount C.stamp) t) t m desk.new r.0 r.1) }
+    ensures step { is_closing desk.old.job ≡ true → IsStep (charge_by C.amount C.stamp) set.now.marks.limit desk.old desk.new nothing result }
 {
     look_from(desk, place);
     if is_full(desk) {
@@ -117,8 +124,9 @@ fn turn_live<C: Charge>(
     desk: &mut Desk<Held<C>>,
     at: u64,
 ) -> Result<(Stage<C, Held<C>>, Option<Turn<C>>), Hand<C>>
-    ensures { (t : Terms) (last : ℕ) (handler : Handler) (m : Course) → SetsUp set.now t → IsSound t last handler m → m.under ≡ None → Keeps (StandsFor (charge_by C.amount C.stamp) t) t m desk.old
+    ensures turn { (t : Terms) (last : ℕ) (handler : Handler) (m : Course) → SetsUp set.now t → IsSound t last handler m → m.under ≡ None → Keeps (StandsFor (charge_by C.amount C.stamp) t) t m desk.old
         → (core_of t m).owed ≡ None → m.job ≡ Closes at → due_by t (core_of t m) at ≡ None → IfOk result (λ r. Moves (charge_by C.amount C.stamp) (StandsFor (charge_by C.amount C.stamp) t) t m desk.new r.0 r.1) }
+    ensures step { is_closing desk.old.job ≡ true → IsStep (charge_by C.amount C.stamp) set.now.marks.limit desk.old desk.new nothing result }
 {
     match find_live(desk) {
         Ok(Some(place)) => turn_first(alloc, set, desk, place, at),
@@ -134,8 +142,9 @@ fn turn_closing<C: Charge>(
     desk: &mut Desk<Held<C>>,
     at: u64,
 ) -> Result<(Stage<C, Held<C>>, Option<Turn<C>>), Hand<C>>
-    ensures { (t : Terms) (last : ℕ) (handler : Handler) (m : Course) → SetsUp set.now t → IsSound t last handler m → m.under ≡ None → Keeps (StandsFor (charge_by C.amount C.stamp) t) t m desk.old
+    ensures turn { (t : Terms) (last : ℕ) (handler : Handler) (m : Course) → SetsUp set.now t → IsSound t last handler m → m.under ≡ None → Keeps (StandsFor (charge_by C.amount C.stamp) t) t m desk.old
         → (core_of t m).owed ≡ None → m.job ≡ Closes at → IfOk result (λ r. Moves (charge_by C.amount C.stamp) (StandsFor (charge_by C.amount C.stamp) t) t m desk.new r.0 r.1) }
+    ensures step { is_closing desk.old.job ≡ true → IsStep (charge_by C.amount C.stamp) set.now.marks.limit desk.old desk.new nothing result }
 {
     match first_due(desk, at) {
         Some(place) => turn_due(alloc, set, desk, place, at),
@@ -149,8 +158,9 @@ fn turn_job<C: Charge>(
     set: &ConvoSet,
     desk: &mut Desk<Held<C>>,
 ) -> Result<(Stage<C, Held<C>>, Option<Turn<C>>), Hand<C>>
-    ensures { (t : Terms) (last : ℕ) (handler : Handler) (m : Course) → SetsUp set.now t → IsSound t last handler m → m.under ≡ None → Keeps (StandsFor (charge_by C.amount C.stamp) t) t m desk.old
+    ensures turn { (t : Terms) (last : ℕ) (handler : Handler) (m : Course) → SetsUp set.now t → IsSound t last handler m → m.under ≡ None → Keeps (StandsFor (charge_by C.amount C.stamp) t) t m desk.old
         → (core_of t m).owed ≡ None → IfOk result (λ r. Moves (charge_by C.amount C.stamp) (StandsFor (charge_by C.amount C.stamp) t) t m desk.new r.0 r.1) }
+    ensures step { IsStep (charge_by C.amount C.stamp) set.now.marks.limit desk.old desk.new nothing result }
 {
     match &desk.job {
         Job::Nothing => Ok(rest(desk)),
@@ -171,8 +181,9 @@ pub(crate) fn turn_rest<C: Charge>(
     set: &ConvoSet,
     desk: &mut Desk<Held<C>>,
 ) -> Result<(Stage<C, Held<C>>, Option<Turn<C>>), Hand<C>>
-    ensures { (t : Terms) (last : ℕ) (handler : Handler) (m : Course) → SetsUp set.now t → IsSound t last handler m → m.under ≡ None → Keeps (StandsFor (charge_by C.amount C.stamp) t) t m desk.old
+    ensures turn { (t : Terms) (last : ℕ) (handler : Handler) (m : Course) → SetsUp set.now t → IsSound t last handler m → m.under ≡ None → Keeps (StandsFor (charge_by C.amount C.stamp) t) t m desk.old
         → IfOk result (λ r. Moves (charge_by C.amount C.stamp) (StandsFor (charge_by C.amount C.stamp) t) t m desk.new r.0 r.1) }
+    ensures step { IsStep (charge_by C.amount C.stamp) set.now.marks.limit desk.old desk.new nothing result }
 {
     match desk.owed {
         Some(owed) => turn_owed(alloc, set, desk, owed),

@@ -5,5 +5,5 @@ use Rattle.std.specs.Prelude.{nat_le}
 use Rattle.coretable.proofs.PlanLemmas.{full_is}
 use Rattle.coretable.proofs.resting.is_full.Goals as goal
 
-pub returns : goal.returns
-returns g c t m e k l = ap (nat_le 256) c.count_unanswered.ensures ∙ full_is (StandsFor (charge_by g.C.Charge.amount g.C.Charge.stamp) t) t m c.args.desk.now e k l
+pub returns-clause-turn : goal.returns-clause-turn
+returns-clause-turn g c t m e k l = ap (nat_le 256) c.count_unanswered.ensures ∙ full_is (StandsFor (charge_by g.C.Charge.amount g.C.Charge.stamp) t) t m c.args.desk.now e k l
