@@ -20,6 +20,8 @@ pub mod ByteLaws
 pub mod ShownLaws
 pub mod ScheduleSteps
 pub mod ScheduleRuns
+pub mod ActorMoves
+pub mod GoingOn
 pub mod DrillRuns
 pub mod DrillCourse
 pub mod DrillSteps

@@ -16,3 +16,4 @@ pub mod Served
 pub mod Holds
 pub mod Rows
 pub mod Bytes
+pub mod GoesOn

@@ -1,5 +1,6 @@
 //! What a schedule makes of a run, each law as the contract of a function with an empty body.
 ghost use Rattle.mixrun.specs.Scheduled.{IdleHasNoStep, ActsByAStep, ActsInOneWay, SchedulesDetermine, SeedsDetermine, RunsReach, SeedsReach, StepsLeadOn};
+ghost use Rattle.mixrun.specs.GoesOn.{StoppedAtFirst, StepsStop, OffersStop, EachGoesOn};
 
 /// An actor that is idle has no step of the machine; another one has the one step that its order gives it.
 pub fn each_actor_has_its_step()
@@ -19,4 +20,16 @@ pub fn runs_are_steps()
     ensures actors { RunsReach }
     ensures seed { SeedsReach }
     ensures holds { StepsLeadOn }
+{}
+
+/// Between the steps each table has stopped.
+pub fn tables_have_stopped()
+    ensures first { StoppedAtFirst }
+    ensures step { StepsStop }
+    ensures offer { OffersStop }
+{}
+
+/// So where the layers below give what it needs (`CanGoOn`), each actor is idle or makes exactly one step.
+pub fn each_actor_goes_on()
+    ensures { EachGoesOn }
 {}
