@@ -61,26 +61,26 @@ closes_wants : {R : Type 0} (b : Bool) (w : Want) → cond b (Stops Finishes) (S
 closes_wants true w e = absurd cc
 closes_wants false w e = absurd cc
 
-no_choice : {R : Type 0} (terms : Terms) (m : Course) (ch : Choice) (w : Want) → choice_step (core_of terms m) m ch ≡ Stops (Wants w) → R
+pub no_choice : {R : Type 0} (terms : Terms) (m : Course) (ch : Choice) (w : Want) → choice_step (core_of terms m) m ch ≡ Stops (Wants w) → R
 no_choice terms m (Begins line) w e = begins_wants m _ (has_room (core_of terms m)) w e
 no_choice terms m Waits w e = absurd cc
 no_choice terms m Closed w e = closes_wants (is_answered (core_of terms m)) w e
 
 -- the entry under way of a table that wants something
-under_of : (terms : Terms) (m : Course) (w : Want) → step terms m ≡ Stops (Wants w) → (u : Under) × (m.under ≡ Some u)
+abbrev under_of : (terms : Terms) (m : Course) (w : Want) → step terms m ≡ Stops (Wants w) → (u : Under) × (m.under ≡ Some u)
 under_of terms m w h = by m.under refl
   where
     by : (o : Option Under) → m.under ≡ o → (u : Under) × (m.under ≡ Some u)
     by (Some u) e = (u, e)
     by None e = no_choice terms m (choice terms (core_of terms m) m.job) w (rw (step, e) at h)
 
-wants_no_rest : (terms : Terms) (m : Course) → step terms m ≡ Stops (Wants Rest) → ⊥
+pub wants_no_rest : (terms : Terms) (m : Course) → step terms m ≡ Stops (Wants Rest) → ⊥
 wants_no_rest terms m h = by (under_of terms m Rest h)
   where
     by : (u : Under) × (m.under ≡ Some u) → ⊥
     by (u, e) = no_rest m u (want_of terms m u) (rw (step, e) at h)
 
-given_under : (terms : Terms) (m : Course) (u : Under) (event : Event) → m.under ≡ Some u → IsGivenBy terms m (given_of terms m u event) event
+pub given_under : (terms : Terms) (m : Course) (u : Under) (event : Event) → m.under ≡ Some u → IsGivenBy terms m (given_of terms m u event) event
 given_under terms m u event e = rw (IsGivenBy, e) refl
 
 -- A worker's round
@@ -94,19 +94,19 @@ module _ (s : Setup) (w : ℕ) (m : Moment) (last : Option ℕ) where
   NoneBelow k = (d : ℕ) (a : AtCore) → d < k → slice_get m.cores d ≡ Some a → d % length s.handlers ≡ w → a.events ≡ []
 
   -- one of them has, and none before it in the round
-  record FirstBelow (k : ℕ) : Type 0 where
-    core : ℕ
-    at : AtCore
-    given : Given
-    is_core : slice_get m.cores core ≡ Some at
-    own : core % length s.handlers ≡ w
-    first : IsFirst given at.events
-    least : (d : ℕ) (a : AtCore) → d < k → slice_get m.cores d ≡ Some a → d % length s.handlers ≡ w → a.events ≢ [] → place core ≤ place d
+  pub record FirstBelow (k : ℕ) : Type 0 where
+    pub core : ℕ
+    pub at : AtCore
+    pub given : Given
+    pub is_core : slice_get m.cores core ≡ Some at
+    pub own : core % length s.handlers ≡ w
+    pub first : IsFirst given at.events
+    pub least : (d : ℕ) (a : AtCore) → d < k → slice_get m.cores d ≡ Some a → d % length s.handlers ≡ w → a.events ≢ [] → place core ≤ place d
 
   abbrev Searched : ℕ → Type 0
   Searched k = NoneBelow k ⊎ FirstBelow k
 
-  below_or_at : {R : Type 0} (d k : ℕ) → d < suc k → (d < k → R) → (d ≡ k → R) → R
+  pub below_or_at : {R : Type 0} (d k : ℕ) → d < suc k → (d < k → R) → (d ≡ k → R) → R
   below_or_at {R = R} d k l f g = by (nat_lt d k) refl
     where
       by : (b : Bool) → nat_lt d k ≡ b → R
@@ -114,7 +114,7 @@ module _ (s : Setup) (w : ℕ) (m : Moment) (last : Option ℕ) where
       by false t = g (let low : ¬ (d < k) = grind (arith, nat_tests, t) in omega (arith, l, low))
 
   -- the core behind them has none for the worker
-  passed : (k : ℕ) → ((a : AtCore) → slice_get m.cores k ≡ Some a → k % length s.handlers ≡ w → a.events ≡ []) → Searched k → Searched (suc k)
+  abbrev passed : (k : ℕ) → ((a : AtCore) → slice_get m.cores k ≡ Some a → k % length s.handlers ≡ w → a.events ≡ []) → Searched k → Searched (suc k)
   passed k none (inl before) = inl (λ d a l there own. below_or_at d k l (λ less. before d a less there own)
       (λ same. none a (subst (λ (i : ℕ). slice_get m.cores i ≡ Some a) same there) (subst (λ (i : ℕ). i % length s.handlers ≡ w) same own)))
   passed k none (inr f) = inr (record {
@@ -129,7 +129,7 @@ module _ (s : Setup) (w : ℕ) (m : Moment) (last : Option ℕ) where
   })
 
   -- it has one
-  met : (k : ℕ) (a : AtCore) (given : Given) → slice_get m.cores k ≡ Some a → k % length s.handlers ≡ w → IsFirst given a.events → Searched k → Searched (suc k)
+  abbrev met : (k : ℕ) (a : AtCore) (given : Given) → slice_get m.cores k ≡ Some a → k % length s.handlers ≡ w → IsFirst given a.events → Searched k → Searched (suc k)
   met k a given there own first (inl before) = inr (record {
     core = k;
     at = a;
@@ -165,7 +165,7 @@ module _ (s : Setup) (w : ℕ) (m : Moment) (last : Option ℕ) where
             least = λ d b l is mine some. below_or_at d k l (λ less. let far = f.least d b less is mine some in omega (arith, high, far)) (λ same. subst (λ (i : ℕ). place k ≤ place i) (sym same) (omega arith));
           })
 
-  one_more : (k : ℕ) → Searched k → Searched (suc k)
+  abbrev one_more : (k : ℕ) → Searched k → Searched (suc k)
   one_more k before = by (slice_get m.cores k) refl
     where
       events : (a : AtCore) → slice_get m.cores k ≡ Some a → k % length s.handlers ≡ w → (l : List Given) → a.events ≡ l → Searched (suc k)
@@ -180,14 +180,14 @@ module _ (s : Setup) (w : ℕ) (m : Moment) (last : Option ℕ) where
       by None e = passed k (λ a is own. absurd cc) before
       by (Some a) e = mine a e ((k % length s.handlers) == w) refl
 
-  searched : (k : ℕ) → Searched k
+  abbrev searched : (k : ℕ) → Searched k
   searched zero = inl (λ d a l there own. absurd (omega (arith, l)))
   searched (suc k) = one_more k (searched k)
 
 -- What an actor does
 
 module _ (F : Type 0) (s : Setup) (m : Moment) (needs : Needs F s m) where
-  core_moves : (c : ℕ) (a : AtCore) (move : CoreMove) (back : Bool) → slice_get m.cores c ≡ Some a → is_back move ≡ back → MayMove s.terms m.pair a move → F ⊎ ((n : Moment) × MovesCore s c back m n)
+  abbrev core_moves : (c : ℕ) (a : AtCore) (move : CoreMove) (back : Bool) → slice_get m.cores c ≡ Some a → is_back move ≡ back → MayMove s.terms m.pair a move → F ⊎ ((n : Moment) × MovesCore s c back m n)
   core_moves c a move back is side may = by (needs.settles c a move is may)
     where
       by : F ⊎ ((n : ℕ) × (stop : Stop) × (there : Course) × Comes s.terms n (moved s.terms move a).course stop there) → F ⊎ ((n : Moment) × MovesCore s c back m n)
@@ -204,7 +204,7 @@ module _ (F : Type 0) (s : Setup) (m : Moment) (needs : Needs F s m) where
             workers = refl;
           })
 
-  core_does : (c : ℕ) → Does F s m (actors.Core c)
+  abbrev core_does : (c : ℕ) → Does F s m (actors.Core c)
   core_does c = by (slice_get m.cores c) refl
     where
       made : F ⊎ ((n : Moment) × MovesCore s c false m n) → Does F s m (actors.Core c)
@@ -246,7 +246,7 @@ module _ (F : Type 0) (s : Setup) (m : Moment) (needs : Needs F s m) where
       by None e = inr (inl (λ a there. absurd cc))
       by (Some a) e = stopped a e (needs.stops c a e)
 
-  back_does : (c : ℕ) → Does F s m (actors.Back c)
+  abbrev back_does : (c : ℕ) → Does F s m (actors.Back c)
   back_does c = by (slice_get m.cores c) refl
     where
       made : F ⊎ ((n : Moment) × MovesCore s c true m n) → Does F s m (actors.Back c)
@@ -268,7 +268,7 @@ module _ (F : Type 0) (s : Setup) (m : Moment) (needs : Needs F s m) where
       by None e = inr (inl (λ a there. absurd cc))
       by (Some a) e = answers a e a.answers refl
 
-  work_does : (w : ℕ) → Does F s m (actors.Work w)
+  abbrev work_does : (w : ℕ) → Does F s m (actors.Work w)
   work_does w = by (slice_get m.workers w) refl
     where
       search : (x : AtWorker) → slice_get m.workers w ≡ Some x → x.hand ≡ None → Searched s w m (last_of x.served) (length m.cores) → Does F s m (actors.Work w)
@@ -335,7 +335,7 @@ module _ (F : Type 0) (s : Setup) (m : Moment) (needs : Needs F s m) where
       by None e = inr (inl (λ x there. absurd cc))
       by (Some x) e = hand x e x.hand refl
 
-  pub does : (actor : Actor) → Does F s m actor
+  abbrev pub does : (actor : Actor) → Does F s m actor
   does (actors.Back c) = back_does c
   does (actors.Work w) = work_does w
   does (actors.Core c) = core_does c

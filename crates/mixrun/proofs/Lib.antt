@@ -22,6 +22,7 @@ pub mod ScheduleSteps
 pub mod ScheduleRuns
 pub mod ActorMoves
 pub mod GoingOn
+pub mod DrillEval
 pub mod DrillRuns
 pub mod DrillCourse
 pub mod DrillSteps
