@@ -1,5 +1,5 @@
 -- An actor is idle or makes its step, where nothing that it needs for it fails.
-use Rattle.std.proofs.Common.{◌≡◌, ℕ, zero, suc, ◌+◌, ◌^◌, ◌≤◌, ◌<◌, ◌==◌, ◌%◌, ◌⊎◌, ◌≢◌, inl, inr, Bool, true, false, cond, List, [], ◌∷◌, ◌++◌, Option, Some, None, refl, ap, sym, ◌∙◌, subst, arith, length, drop, set, slice_get}
+use Rattle.std.proofs.Common.{◌≡◌, ℕ, zero, suc, ◌^◌, ◌≤◌, ◌<◌, ◌==◌, ◌%◌, ◌⊎◌, ◌≢◌, inl, inr, Bool, true, false, cond, List, [], ◌∷◌, ◌++◌, Option, Some, None, refl, ap, sym, ◌∙◌, subst, arith, length, drop, set, slice_get}
 use Rattle.std.specs.Prelude.{nat_lt, nat_le}
 use Rattle.std.proofs.lemmas.Option.{slice_get_within}
 use Rattle.std.proofs.lemmas.Bool.Decides.{nat_tests}
@@ -16,11 +16,11 @@ use Rattle.coretable.specs.Course.Step.{Goes, Stops}
 use Rattle.coretable.specs.Course.Stop.{Wants, Fills, Rests, Finishes}
 use Rattle.mixrun.specs.declared.actor.Actor.{Actor}
 use Rattle.mixrun.specs.declared.actor.Actor.TheVariants as actors
-use Rattle.mixrun.specs.Moment.{Setup, Input, Given, Reply, AtCore, InHand, AtWorker, Pair, Moment}
+use Rattle.mixrun.specs.Moment.{Setup, Input, Given, Reply, AtCore, InHand, AtWorker, Moment}
 use Rattle.mixrun.specs.Moves.{CoreMove, moved, pair_behind, look_at, free_at, behind_free, given_of, IsGivenBy, IsFirst, next_owed, reply_of, given_back, taken}
 use Rattle.mixrun.specs.Moves.CoreMove.{Loads, Asks, Frees, Emits, TakesBack}
-use Rattle.mixrun.specs.Steps.{MayMove, is_back, MovesCore, TakesOne, GivesOne, AnswersOne}
-use Rattle.mixrun.specs.Schedule.{IsCoreIdle, IsBackIdle, NoneWaits, IsIdle, last_of, round_place, IsInTurn, Acts}
+use Rattle.mixrun.specs.Steps.{MayMove, is_back, MovesCore}
+use Rattle.mixrun.specs.Schedule.{IsCoreIdle, IsBackIdle, IsIdle, last_of, round_place, Acts}
 use Rattle.mixrun.specs.GoesOn.{IsOut}
 use Rattle.mixrun.proofs.ScheduleSteps.{same_some}
 
@@ -193,16 +193,19 @@ module _ (F : Type 0) (s : Setup) (m : Moment) (needs : Needs F s m) where
       by : F ⊎ ((n : ℕ) × (stop : Stop) × (there : Course) × Comes s.terms n (moved s.terms move a).course stop there) → F ⊎ ((n : Moment) × MovesCore s c back m n)
       by (inl f) = inl f
       by (inr (n, stop, there, comes)) =
-          inr (record { cores = set m.cores c (record (moved s.terms move a) { course = there }); workers = m.workers; pair = pair_behind move m.pair }, record {
-            move = move;
-            before = a;
-            after = record (moved s.terms move a) { course = there };
-            is_it = is;
-            side = side;
-            steps = record { may = may; pair = refl; settles = (n, stop, comes, refl) };
-            cores = refl;
-            workers = refl;
-          })
+          inr (
+            record { cores = set m.cores c (record (moved s.terms move a) { course = there }); workers = m.workers; pair = pair_behind move m.pair },
+            record {
+              move = move;
+              before = a;
+              after = record (moved s.terms move a) { course = there };
+              is_it = is;
+              side = side;
+              steps = record { may = may; pair = refl; settles = (n, stop, comes, refl) };
+              cores = refl;
+              workers = refl;
+            },
+          )
 
   abbrev core_does : (c : ℕ) → Does F s m (actors.Core c)
   core_does c = by (slice_get m.cores c) refl
@@ -275,53 +278,65 @@ module _ (F : Type 0) (s : Setup) (m : Moment) (needs : Needs F s m) where
       search x is empty (inl none) = inr (inl (λ y there. let same = same_some (slice_get m.workers w) x y is there in
           (subst (λ (z : AtWorker). z.hand ≡ None) same empty, λ c a core own. none c a (slice_get_within m.cores c a core) core own)))
       search x is empty (inr f) =
-          inr (inr (record { cores = set m.cores f.core (record f.at { events = drop 1 f.at.events }); workers = set m.workers w (record x { hand = Some (taken f.core f.given) }); pair = m.pair }, inl (record {
-            worker = x;
-            core = f.core;
-            at = f.at;
-            given = f.given;
-            is_it = is;
-            empty = empty;
-            own = f.own;
-            is_core = f.is_core;
-            first = f.first;
-            cores = refl;
-            workers = refl;
-            pair = refl;
-          }, λ d a there own some. f.least d a (slice_get_within m.cores d a there) there own some)))
+          inr (inr (
+            record { cores = set m.cores f.core (record f.at { events = drop 1 f.at.events }); workers = set m.workers w (record x { hand = Some (taken f.core f.given) }); pair = m.pair },
+            inl (
+              record {
+                worker = x;
+                core = f.core;
+                at = f.at;
+                given = f.given;
+                is_it = is;
+                empty = empty;
+                own = f.own;
+                is_core = f.is_core;
+                first = f.first;
+                cores = refl;
+                workers = refl;
+                pair = refl;
+              },
+              λ d a there own some. f.least d a (slice_get_within m.cores d a there) there own some,
+            ),
+          ))
 
       give : (x : AtWorker) (h : InHand) (charge : Charge) → slice_get m.workers w ≡ Some x → x.hand ≡ Some h → next_owed (handler_at s.handlers w) h ≡ Some charge → F ⊎ IsOut m.pair charge → Does F s m (actors.Work w)
       give x h charge is has next (inl f) = inl f
       give x h charge is has next (inr out) =
-          inr (inr (record { cores = m.cores; workers = set m.workers w (record x { hand = Some (given_back (handler_at s.handlers w) (free_at m.pair charge) h) }); pair = behind_free m.pair (free_at m.pair charge) }, inr (inl (record {
-            worker = x;
-            hand = h;
-            charge = charge;
-            is_it = is;
-            has = has;
-            next = next;
-            room = out.0;
-            early = out.1;
-            cores = refl;
-            workers = refl;
-            pair = refl;
-          }))))
+          inr (inr (
+            record { cores = m.cores; workers = set m.workers w (record x { hand = Some (given_back (handler_at s.handlers w) (free_at m.pair charge) h) }); pair = behind_free m.pair (free_at m.pair charge) },
+            inr (inl (record {
+              worker = x;
+              hand = h;
+              charge = charge;
+              is_it = is;
+              has = has;
+              next = next;
+              room = out.0;
+              early = out.1;
+              cores = refl;
+              workers = refl;
+              pair = refl;
+            })),
+          ))
 
       answer : (x : AtWorker) (h : InHand) → slice_get m.workers w ≡ Some x → x.hand ≡ Some h → next_owed (handler_at s.handlers w) h ≡ None → F ⊎ ((at : AtCore) × (slice_get m.cores h.core ≡ Some at)) → Does F s m (actors.Work w)
       answer x h is has done (inl f) = inl f
       answer x h is has done (inr (at, there)) =
-          inr (inr (record { cores = set m.cores h.core (record at { answers = at.answers ++ reply_of (handler_at s.handlers w) h ∷ [] }); workers = set m.workers w (record { hand = None; served = x.served ++ h.core ∷ [] }); pair = m.pair }, inr (inr (record {
-            worker = x;
-            hand = h;
-            at = at;
-            is_it = is;
-            has = has;
-            done = done;
-            is_core = there;
-            cores = refl;
-            workers = refl;
-            pair = refl;
-          }))))
+          inr (inr (
+            record { cores = set m.cores h.core (record at { answers = at.answers ++ reply_of (handler_at s.handlers w) h ∷ [] }); workers = set m.workers w (record { hand = None; served = x.served ++ h.core ∷ [] }); pair = m.pair },
+            inr (inr (record {
+              worker = x;
+              hand = h;
+              at = at;
+              is_it = is;
+              has = has;
+              done = done;
+              is_core = there;
+              cores = refl;
+              workers = refl;
+              pair = refl;
+            })),
+          ))
 
       serve : (x : AtWorker) (h : InHand) → slice_get m.workers w ≡ Some x → x.hand ≡ Some h → (o : Option Charge) → next_owed (handler_at s.handlers w) h ≡ o → Does F s m (actors.Work w)
       serve x h is has None e = answer x h is has e (needs.known w x h is has)

@@ -1,21 +1,20 @@
 -- Small drills without a seed, each step by its name: who makes it, in the order of the actors, and where it is an offer.
-use Rattle.std.proofs.Common.{◌≡◌, ℕ, zero, suc, ◌+◌, ◌-◌, ◌^◌, ◌≤◌, ◌<◌, ◌⊎◌, inl, inr, Bool, true, false, List, [], ◌∷◌, ◌++◌, Option, Some, None, refl, ap, sym, ◌∙◌, subst, arith, length, replicate, set, slice_get}
+use Rattle.std.proofs.Common.{◌≡◌, ℕ, zero, suc, ◌-◌, ◌^◌, ◌<◌, ◌⊎◌, inl, inr, Bool, true, false, List, [], ◌∷◌, ◌++◌, Option, Some, None, refl, sym, subst, arith, length, replicate, set, slice_get}
 use Rattle.std.specs.Prelude.{⊤, nat_lt, nat_le}
 use Rattle.std.proofs.lemmas.Option.{slice_get_within}
 use Rattle.std.proofs.lemmas.Bool.Decides.{nat_tests}
-use Rattle.prio_budget.specs.declared.free.Free.{Free}
 use Rattle.streamdefs.specs.Packet.{Packet}
 use Rattle.streamdefs.specs.Terms.{Terms}
 use Rattle.streamdefs.specs.Reorder.{Charge}
-use Rattle.streamdefs.specs.Rows.{limited, silent, datagram, datagram_from}
+use Rattle.streamdefs.specs.Rows.{datagram, datagram_from}
 use Rattle.coretable.specs.Course.{Course, Stop, Step, step, GoesOn, After, Comes}
 use Rattle.coretable.specs.Course.Step.{Goes, Stops}
 use Rattle.mixrun.specs.declared.actor.Actor.{Actor}
 use Rattle.mixrun.specs.declared.actor.Actor.TheVariants.{Back, Work, Core}
-use Rattle.mixrun.specs.Moment.{Setup, Input, AtCore, InHand, AtWorker, Pair, Moment}
+use Rattle.mixrun.specs.Moment.{Setup, AtCore, Pair, Moment}
 use Rattle.mixrun.specs.Steps.{Offers, opening}
-use Rattle.mixrun.specs.Schedule.{IsIdle, AreAllIdle, Acts, FirstActs, actors_of, actors_at}
-use Rattle.mixrun.specs.Drill.{Offer, OffersAll, OffersNext, Pick, PlainStep, Drills, Drilled, offers_of, picks_by}
+use Rattle.mixrun.specs.Schedule.{IsIdle, AreAllIdle, Acts, FirstActs, actors_of}
+use Rattle.mixrun.specs.Drill.{Offer, OffersAll, OffersNext, Drills, offers_of}
 use Rattle.mixrun.specs.Drill.Pick.{Unnamed}
 use Rattle.mixrun.specs.GoesOn.{IsOut}
 use Rattle.mixrun.specs.Rows.{small}
@@ -236,7 +235,7 @@ found s all offers m (inr (others, n, it)) turns e = (n, subst (λ (l : List Tur
 -- at most so many steps show it
 goes_by : (fuel : ℕ) (s : Setup) (core_of : Packet → ℕ) (cores : ℕ) (packets : List Packet) (turns : List Turn)
     → turns_in s (actors_of cores (length s.handlers)) (offers_of core_of cores s.last packets) (opening cores (length s.handlers))
-        (whole s fuel (actors_of cores (length s.handlers)) (offers_of core_of cores s.last packets) (opening cores (length s.handlers))) ≡ Some turns → GoesBy s core_of cores packets turns
+    (whole s fuel (actors_of cores (length s.handlers)) (offers_of core_of cores s.last packets) (opening cores (length s.handlers))) ≡ Some turns → GoesBy s core_of cores packets turns
 goes_by fuel s core_of cores packets turns e = found s _ _ _ (whole s fuel _ _ _) turns e
 
 -- The drills
@@ -254,14 +253,14 @@ nothing_comes = goes_by 8 small sole 1 [] _ refl
 -- and gives the end's event; the worker takes it and answers; and the last answer goes back.
 full_chunk : GoesBy small sole 1 (datagram 1 0 (97 ∷ 98 ∷ 99 ∷ 100 ∷ []) ∷ [])
     (Next ∷ By (Core 0) ∷ By (Core 0) ∷ By (Core 0) ∷ By (Work 0) ∷ By (Work 0) ∷ By (Core 0) ∷ By (Back 0) ∷ By (Work 0) ∷ By (Work 0) ∷ By (Work 0) ∷ By (Back 0)
-     ∷ Next ∷ By (Core 0) ∷ By (Core 0) ∷ By (Work 0) ∷ By (Work 0) ∷ By (Back 0) ∷ [])
+    ∷ Next ∷ By (Core 0) ∷ By (Core 0) ∷ By (Work 0) ∷ By (Work 0) ∷ By (Back 0) ∷ [])
 full_chunk = goes_by 20 small sole 1 (datagram 1 0 (97 ∷ 98 ∷ 99 ∷ 100 ∷ []) ∷ []) _ refl
 
 -- Of one that leaves its chunk open: with the end the core gives the chunk, which the worker takes, gives back and answers; then the
 -- end's event, which completes the entry, so that the answer to the chunk goes back before the worker takes the end's.
 open_chunk : GoesBy small sole 1 (datagram 1 0 (97 ∷ 98 ∷ []) ∷ [])
     (Next ∷ By (Core 0) ∷ By (Core 0) ∷ By (Core 0) ∷ By (Work 0) ∷ By (Work 0) ∷ By (Back 0)
-     ∷ Next ∷ By (Core 0) ∷ By (Core 0) ∷ By (Work 0) ∷ By (Work 0) ∷ By (Work 0) ∷ By (Core 0) ∷ By (Back 0) ∷ By (Work 0) ∷ By (Work 0) ∷ By (Back 0) ∷ [])
+    ∷ Next ∷ By (Core 0) ∷ By (Core 0) ∷ By (Work 0) ∷ By (Work 0) ∷ By (Work 0) ∷ By (Core 0) ∷ By (Back 0) ∷ By (Work 0) ∷ By (Work 0) ∷ By (Back 0) ∷ [])
 open_chunk = goes_by 20 small sole 1 (datagram 1 0 (97 ∷ 98 ∷ []) ∷ []) _ refl
 
 -- the first packet to core 0, the second one to core 1
@@ -272,7 +271,7 @@ in_turn p = p.number - 1
 -- at once, and what core 0 begins is whole before core 1 loads it, since core 0 stands before it.
 two_cores : GoesBy small in_turn 2 (datagram 1 0 (97 ∷ 98 ∷ []) ∷ datagram_from 5001 2 0 (99 ∷ 100 ∷ []) ∷ [])
     (Next ∷ By (Core 0) ∷ By (Core 0) ∷ By (Core 0) ∷ By (Work 0) ∷ By (Work 0) ∷ By (Back 0)
-     ∷ Next ∷ By (Core 1) ∷ By (Core 1) ∷ By (Core 1) ∷ By (Work 0) ∷ By (Work 0) ∷ By (Back 1)
-     ∷ Next ∷ By (Core 0) ∷ By (Core 0) ∷ By (Work 0) ∷ By (Work 0) ∷ By (Work 0) ∷ By (Core 0) ∷ By (Back 0) ∷ By (Work 0) ∷ By (Work 0) ∷ By (Back 0)
-     ∷ By (Core 1) ∷ By (Core 1) ∷ By (Work 0) ∷ By (Work 0) ∷ By (Work 0) ∷ By (Core 1) ∷ By (Back 1) ∷ By (Work 0) ∷ By (Work 0) ∷ By (Back 1) ∷ [])
+    ∷ Next ∷ By (Core 1) ∷ By (Core 1) ∷ By (Core 1) ∷ By (Work 0) ∷ By (Work 0) ∷ By (Back 1)
+    ∷ Next ∷ By (Core 0) ∷ By (Core 0) ∷ By (Work 0) ∷ By (Work 0) ∷ By (Work 0) ∷ By (Core 0) ∷ By (Back 0) ∷ By (Work 0) ∷ By (Work 0) ∷ By (Back 0)
+    ∷ By (Core 1) ∷ By (Core 1) ∷ By (Work 0) ∷ By (Work 0) ∷ By (Work 0) ∷ By (Core 1) ∷ By (Back 1) ∷ By (Work 0) ∷ By (Work 0) ∷ By (Back 1) ∷ [])
 two_cores = goes_by 40 small in_turn 2 (datagram 1 0 (97 ∷ 98 ∷ []) ∷ datagram_from 5001 2 0 (99 ∷ 100 ∷ []) ∷ []) _ refl

@@ -1,14 +1,13 @@
 -- Each actor is idle or makes exactly one step, and tables stay stopped.
-use Rattle.std.proofs.Common.{◌≡◌, ℕ, zero, suc, ◌<◌, ◌⊎◌, inl, inr, Bool, true, false, List, [], ◌∷◌, Option, Some, None, refl, sym, ◌∙◌, subst, arith, replicate, length, set, slice_get}
-use Rattle.coretable.specs.Course.{no_course, Stop, step}
+use Rattle.std.proofs.Common.{◌≡◌, ℕ, zero, suc, ◌<◌, ◌⊎◌, inl, inr, Bool, true, false, List, [], ◌∷◌, Some, refl, sym, subst, arith, replicate, length, slice_get}
+use Rattle.coretable.specs.Course.{Stop, step}
 use Rattle.coretable.specs.Course.Step.{Stops}
 use Rattle.coretable.specs.Course.Stop.{Rests}
-use Rattle.mixrun.specs.declared.actor.Actor.{Actor}
 use Rattle.mixrun.specs.declared.actor.Actor.TheVariants as actors
-use Rattle.mixrun.specs.Moment.{Setup, AtCore, InHand, AtWorker, Moment}
+use Rattle.mixrun.specs.Moment.{Setup, AtCore, Moment}
 use Rattle.mixrun.specs.Moves.{moved}
 use Rattle.mixrun.specs.Steps.{Settles, MovesCore, TakesOne, GivesOne, AnswersOne, opening_core}
-use Rattle.mixrun.specs.Schedule.{IsIdle, Acts}
+use Rattle.mixrun.specs.Schedule.{IsIdle}
 use Rattle.mixrun.specs.Holds.{Holds}
 use Rattle.mixrun.specs.GoesOn.{CanGoOn, HaveStopped, StoppedAtFirst, StepsStop, OffersStop, ActsOnce, EachGoesOn}
 use Rattle.mixrun.proofs.QueueSteps.{at_each}

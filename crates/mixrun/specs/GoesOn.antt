@@ -1,5 +1,5 @@
 -- What the layers below have to give, so that each actor that isn't idle has a move.
-use Rattle.std.specs.Prelude.{◌≡◌, ℕ, ◌^◌, ◌<◌, ◌≤◌, ◌⊎◌, Some, None, slice_get}
+use Rattle.std.specs.Prelude.{◌≡◌, ℕ, ◌^◌, ◌<◌, ◌≤◌, ◌⊎◌, Some, slice_get}
 use Rattle.streamdefs.specs.View.{Ask}
 use Rattle.streamdefs.specs.Reorder.{Charge}
 use Rattle.streamdefs.specs.Lawful.{handler_at}
