@@ -120,7 +120,7 @@ how_many_end test (x ∷ xs) y = by (test x) (how_many_end test xs y)
     by true h = omega arith
     by false h = h
 
-both_true : (b c : Bool) → (b && c) ≡ true → (b ≡ true) × (c ≡ true)
+pub both_true : (b c : Bool) → (b && c) ≡ true → (b ≡ true) × (c ≡ true)
 both_true true c h = (refl, h)
 both_true false c h = absurd cc
 

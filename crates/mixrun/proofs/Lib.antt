@@ -23,6 +23,7 @@ pub mod ScheduleRuns
 pub mod ActorMoves
 pub mod GoingOn
 pub mod DrillEval
+pub mod RoundLemmas
 pub mod DrillRuns
 pub mod DrillCourse
 pub mod DrillSteps

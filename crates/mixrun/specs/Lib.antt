@@ -17,3 +17,4 @@ pub mod Holds
 pub mod Rows
 pub mod Bytes
 pub mod GoesOn
+pub mod Rounds

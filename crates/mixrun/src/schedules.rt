@@ -1,5 +1,6 @@
 //! What a schedule makes of a run, each law as the contract of a function with an empty body.
 ghost use Rattle.mixrun.specs.Scheduled.{IdleHasNoStep, ActsByAStep, ActsInOneWay, SchedulesDetermine, SeedsDetermine, RunsReach, SeedsReach, StepsLeadOn};
+ghost use Rattle.mixrun.specs.Rounds.{RoundsAreInTurn, RoundsMissNone};
 ghost use Rattle.mixrun.specs.GoesOn.{StoppedAtFirst, StepsStop, OffersStop, EachGoesOn};
 
 /// An actor that is idle has no step of the machine; another one has the one step that its order gives it.
@@ -32,4 +33,11 @@ pub fn tables_have_stopped()
 /// So where the layers below give what it needs (`CanGoOn`), each actor is idle or makes exactly one step.
 pub fn each_actor_goes_on()
     ensures { EachGoesOn }
+{}
+
+/// The first core with an event, from the core where a worker's round stands on, is the one that it takes of; where the round
+/// finds none, none waits for the worker.
+pub fn rounds_are_in_turn()
+    ensures first { RoundsAreInTurn }
+    ensures none { RoundsMissNone }
 {}
