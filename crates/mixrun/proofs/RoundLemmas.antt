@@ -1,5 +1,5 @@
 -- The round of a worker comes to its cores in the order of their places in the round.
-use Rattle.std.proofs.Common.{◌≡◌, ◌≢◌, ℕ, zero, suc, ◌+◌, ◌-◌, ◌*◌, ◌/◌, ◌%◌, ◌<◌, ◌≤◌, ◌⊎◌, inl, inr, Bool, true, false, cond, map, List, [], ◌∷◌, Option, Some, None, refl, ap, sym, ◌∙◌, subst, arith, length, slice_get}
+use Rattle.std.proofs.Common.{◌≡◌, ◌≢◌, ℕ, zero, suc, ◌+◌, ◌-◌, ◌*◌, ◌/◌, ◌%◌, ◌<◌, ◌≤◌, ◌⊎◌, inl, inr, Bool, true, false, cond, map, List, [], ◌∷◌, Option, Some, None, refl, ap, sym, ◌∙◌, arith, length, slice_get}
 use Rattle.std.specs.Prelude.{nat_lt, nat_le, ◌==◌, take, option_map}
 use Rattle.std.specs.List.{list_all}
 use Rattle.streamdefs.specs.Lists.{how_many}
@@ -7,7 +7,7 @@ use Rattle.std.proofs.Math.Nat.{div-add-mod, mul-le-mul_left, mul-suc, mul_comm,
 use Rattle.std.proofs.lemmas.Nat.{le-div, div-mul-add}
 use Rattle.std.proofs.lemmas.Option.{slice_get_within, slice_get-map}
 use Rattle.std.proofs.lemmas.Bool.Decides.{nat_tests}
-use Rattle.workrun.specs.Circle.{numbers, count_of, place_of, round_from, IsOwn}
+use Rattle.workrun.specs.Circle.{numbers, count_of, place_of, IsOwn}
 use Rattle.coretable.proofs.WantLemmas.{none_past}
 use Rattle.mixrun.specs.Moment.{Setup, AtCore, AtWorker, Moment}
 use Rattle.mixrun.specs.Schedule.{last_of, round_place, NoneWaits, IsInTurn}
@@ -287,10 +287,10 @@ module _ (s : Setup) (m : Moment) (w : ℕ) (x : AtWorker) (holds : Holds s m) (
               → round_place (Some last) cores core ≤ round_place (Some last) cores d
           way at_is earlier (inl (far, same)) =
               before_end w step_of cores last d core f.turn less own_it.0 own_it.1 own found_core found_within (found_is ∙ ap (λ q. w + step_of * ((q + f.turn) % count)) at_is)
-                (omega (arith, far, at_is)) (omega (arith, earlier, same, at_is)) (d_within d a there own)
+              (omega (arith, far, at_is)) (omega (arith, earlier, same, at_is)) (d_within d a there own)
           way at_is earlier (inr (near, same)) =
               behind_end w step_of cores last d core f.turn less own_it.0 own_it.1 own found_core found_within (found_is ∙ ap (λ q. w + step_of * ((q + f.turn) % count)) at_is)
-                (omega (arith, near, at_is)) (omega (arith, earlier, same, at_is))
+              (omega (arith, near, at_is)) (omega (arith, earlier, same, at_is))
 
     in_turn : IsInTurn s w x m core
     in_turn d a there own some = by (last_of x.served) refl
