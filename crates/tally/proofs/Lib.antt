@@ -9,3 +9,4 @@ pub mod LawLemmas
 pub mod SumLemmas
 pub mod LineLemmas
 pub mod JournalLemmas
+pub mod MergeLemmas

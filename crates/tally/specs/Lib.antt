@@ -6,3 +6,4 @@ pub mod Rows
 pub mod Totals
 pub mod Laws
 pub mod Journal
+pub mod Dirs

@@ -3,8 +3,8 @@ ghost use Rattle.tally.specs.Totals.{AddUp};
 
 use crate::Move::{Free, Grant};
 use crate::{
-    DirTotals, LookList, Memory, Move, MoveList, Peak, ReplayError, Skips, Totals, budget_replay,
-    looks_of, moves_of, put_opening, put_totals, refused_in, replay_journal,
+    DirTotals, LookList, Memory, Move, MoveList, Peak, ReplayError, Skips, Totals, all_dirs,
+    budget_replay, looks_of, moves_of, put_opening, put_totals, refused_in, replay_journal,
 };
 use convo::DirTotal;
 use evring::{Frees, Way};
@@ -250,6 +250,40 @@ fn the_lines_of_a_report_are_appended(rt: HostRuntime) -> Result<(), Memory> {
     put_opening(4, 2, &mut out)?;
     put_totals(&totals(rt.alloc())?, &mut out)?;
     assert_eq!(rt; out.as_slice(), TEXT.as_bytes());
+    Ok(())
+}
+
+/// A direction of a conversation, with as many gaps as its number.
+fn dir(conv: u32, way: Way) -> DirTotal {
+    DirTotal {
+        conv,
+        way,
+        counts: FORE.counts,
+        gaps: u64::from(conv),
+        gap_bytes: 0,
+    }
+}
+
+/// The totals that a core keeps of these conversations.
+fn core(alloc: Global, convs: &[u32]) -> Result<DirTotals, Memory> {
+    let mut dirs = Vec::new(alloc);
+    for conv in convs {
+        dirs.push(dir(*conv, Way::Fore))?;
+        dirs.push(dir(*conv, Way::Back))?;
+    }
+    Ok(DirTotals::of(dirs))
+}
+
+#[test]
+fn the_totals_of_all_cores_stand_in_order(rt: HostRuntime) -> Result<(), Memory> {
+    let mut cores = Vec::new(rt.alloc());
+    cores.push(core(rt.alloc(), &[2, 7, 9])?)?;
+    cores.push(core(rt.alloc(), &[])?)?;
+    cores.push(core(rt.alloc(), &[1, 3])?)?;
+    cores.push(core(rt.alloc(), &[4294967295])?)?;
+    let all = all_dirs(rt.alloc(), &cores)?;
+    let wanted = core(rt.alloc(), &[1, 2, 3, 7, 9, 4294967295])?;
+    assert_eq!(rt; all.as_slice(), wanted.as_slice());
     Ok(())
 }
 
