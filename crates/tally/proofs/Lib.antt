@@ -10,3 +10,4 @@ pub mod SumLemmas
 pub mod LineLemmas
 pub mod JournalLemmas
 pub mod MergeLemmas
+pub mod DirLemmas

@@ -41,10 +41,10 @@ merged_same (x ∷ xs) ys = by (merged_same xs) ys
 
 -- the order, from the front
 
-abbrev From : DirTotal → List DirTotal → Type 0
+abbrev pub From : DirTotal → List DirTotal → Type 0
 From x ys = Each (λ (y : DirTotal). place_of x ≤ place_of y) ys
 
-abbrev Rises : List DirTotal → Type 0
+abbrev pub Rises : List DirTotal → Type 0
 Rises [] = ⊤
 Rises (x ∷ xs) = From x xs × Rises xs
 
@@ -57,11 +57,11 @@ each_at P [] j d l e = absurd (omega (arith, l))
 each_at P (x ∷ xs) zero d l e = e.0
 each_at P (x ∷ xs) (suc j) d l e = each_at P xs j d (omega (arith, l)) e.1
 
-rises : (xs : List DirTotal) → Ascend xs → Rises xs
+pub rises : (xs : List DirTotal) → Ascend xs → Rises xs
 rises [] h = tt
 rises (x ∷ xs) h = (each_from _ xs (λ j d l. h 0 (suc j) d (omega arith) (omega arith)), rises xs (λ i j d le l. h (suc i) (suc j) d (omega arith) (omega arith)))
 
-ascend : (xs : List DirTotal) → Rises xs → Ascend xs
+pub ascend : (xs : List DirTotal) → Rises xs → Ascend xs
 ascend [] r i j d le l = absurd (omega (arith, l))
 ascend (x ∷ xs) r zero zero d le l = omega arith
 ascend (x ∷ xs) r zero (suc j) d le l = each_at _ xs j d (omega (arith, l)) r.0

@@ -7,3 +7,4 @@ pub mod Totals
 pub mod Laws
 pub mod Journal
 pub mod Dirs
+pub mod DirLaws

@@ -1,5 +1,6 @@
 //! What a replay means for a budget's history, each as the contract of a function with an empty body.
 ghost use Rattle.tally.specs.Journal.{JournalIsReplayed, MovesAreTheHistorys, ReplayGivesTheLine, RunIsReplayed};
+ghost use Rattle.tally.specs.DirLaws.{LinesAreTheReports, OneList, RunIsInOrder, SumsAreTheCores};
 ghost use Rattle.tally.specs.Laws.{HistoryIsReplayed, PeakIsTheHistorys, HistoryHasNoMismatch};
 
 /// One history of a budget with fewer than 2^32 moves is one to a replay, with the same peak, and has no mismatch.
@@ -16,4 +17,13 @@ pub fn a_journal_is_replayed()
     ensures journal { JournalIsReplayed }
     ensures run { RunIsReplayed }
     ensures line { ReplayGivesTheLine }
+{}
+
+/// The totals of all cores in one list: where no direction is there twice, one list of them ascends, with the sums over all
+/// cores. Of a run it has the report's order, and the report's lines.
+pub fn all_totals_are_in_order()
+    ensures one { OneList }
+    ensures sums { SumsAreTheCores }
+    ensures run { RunIsInOrder }
+    ensures lines { LinesAreTheReports }
 {}
