@@ -14,10 +14,9 @@ use Rattle.convo.specs.declared.dir_total.DirTotal.{DirTotal}
 use Rattle.streamdefs.specs.Lists.{Each, how_many, total}
 use Rattle.streamdefs.specs.Terms.{Terms}
 use Rattle.streamdefs.specs.Core.{Line}
-use Rattle.streamdefs.specs.Lawful.{Run}
 use Rattle.streamdefs.specs.Totals.{Total, gap_bytes}
-use Rattle.streamdefs.specs.Report.{Tallied, tallied_on, by_number, put_tallied, bytes_line, dir_line, dir_lines, numbers_of}
-use Rattle.tally.specs.Totals.{payload_of, line_of, numbers_in, sums_line}
+use Rattle.streamdefs.specs.Report.{Tallied, tallied_on, by_number, put_tallied, bytes_line, dir_line, numbers_of}
+use Rattle.tally.specs.Totals.{payload_of, line_of}
 use Rattle.tally.specs.Dirs.{Ascend, joined, place_of}
 use Rattle.tally.specs.DirLaws.{AreApart, OneList, SumsAreTheCores, RunIsInOrder, LinesAreTheReports, IsWhole, dir_of, dirs_of, dirs_on}
 use Rattle.tally.proofs.MergeLemmas.{From, Rises, rises, ascend}

@@ -23,7 +23,7 @@ fn place_of(dir: &DirTotal) -> u64
 fn merged(alloc: Global, first: &[DirTotal], second: &[DirTotal]) -> Result<Vec<DirTotal>, Memory>
     ensures { IfOk result (λ all. all.items ≡ merged first.now second.now) }
 {
-    let mut all = Vec::new(alloc);
+    let mut all = Vec::with_capacity(alloc, first.len() + second.len())?;
     let mut i = 0;
     let mut j = 0;
     'merge: while i < first.len() && j < second.len() {
@@ -41,7 +41,7 @@ fn merged(alloc: Global, first: &[DirTotal], second: &[DirTotal]) -> Result<Vec<
 }
 
 /// The totals of all cores in one list, by ascending number of their conversations, fore before back, as those of each core
-/// stand.
+/// stand. Each core costs time in proportion to the number of directions.
 pub fn all_dirs(alloc: Global, cores: &[DirTotals]) -> Result<DirTotals, Memory>
     ensures ascend { IfOk result (λ dirs. All Ascend cores.now → Ascend dirs) }
     ensures same { IfOk result (IsPermutation (joined cores.now)) }
