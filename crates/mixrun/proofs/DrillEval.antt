@@ -1,17 +1,27 @@
--- Small drills without a seed, each step by its name: who makes it, in the order of the actors, and where it is an offer.
+-- Small drills without a seed, turn by turn: which actor makes the step, by the order of the actors, and what it does; and where the next is
+-- offered.
 use Rattle.std.proofs.Common.{◌≡◌, ℕ, zero, suc, ◌-◌, ◌^◌, ◌<◌, ◌⊎◌, inl, inr, Bool, true, false, List, [], ◌∷◌, ◌++◌, Option, Some, None, refl, sym, subst, arith, length, replicate, set, slice_get}
 use Rattle.std.specs.Prelude.{⊤, nat_lt, nat_le}
 use Rattle.std.proofs.lemmas.Option.{slice_get_within}
 use Rattle.std.proofs.lemmas.Bool.Decides.{nat_tests}
+use Rattle.prio_budget.specs.declared.free.Free.{Free}
+use Rattle.histbook.specs.declared.look_entry.LookEntry.{LookEntry}
+use Rattle.evring.specs.declared.reason.Reason.{Reason}
+use Rattle.evring.specs.declared.reason.Reason.TheVariants.{Finish}
 use Rattle.streamdefs.specs.Packet.{Packet}
 use Rattle.streamdefs.specs.Terms.{Terms}
 use Rattle.streamdefs.specs.Reorder.{Charge}
-use Rattle.streamdefs.specs.Rows.{datagram, datagram_from}
+use Rattle.streamdefs.specs.Convo.{Event}
+use Rattle.streamdefs.specs.Convo.Event.{New, Chunk, Ended}
+use Rattle.streamdefs.specs.Rows.{datagram, datagram_from, free, got}
 use Rattle.coretable.specs.Course.{Course, Stop, Step, step, GoesOn, After, Comes}
 use Rattle.coretable.specs.Course.Step.{Goes, Stops}
 use Rattle.mixrun.specs.declared.actor.Actor.{Actor}
 use Rattle.mixrun.specs.declared.actor.Actor.TheVariants.{Back, Work, Core}
-use Rattle.mixrun.specs.Moment.{Setup, AtCore, Pair, Moment}
+use Rattle.mixrun.specs.Moment.{Setup, Input, AtCore, Pair, Moment}
+use Rattle.mixrun.specs.Moment.Input.{Brings, Ends}
+use Rattle.mixrun.specs.Moves.{CoreMove, free_at}
+use Rattle.mixrun.specs.Moves.CoreMove.{Loads as MoveLoads, Asks as MoveAsks, Frees as MoveFrees, Emits as MoveEmits, TakesBack as MoveTakesBack}
 use Rattle.mixrun.specs.Steps.{Offers, opening}
 use Rattle.mixrun.specs.Schedule.{IsIdle, AreAllIdle, Acts, FirstActs, actors_of}
 use Rattle.mixrun.specs.Drill.{Offer, OffersAll, OffersNext, Drills, offers_of}
@@ -20,33 +30,73 @@ use Rattle.mixrun.specs.GoesOn.{IsOut}
 use Rattle.mixrun.specs.Rows.{small}
 use Rattle.mixrun.proofs.ActorMoves.{Does, Needs, does}
 
--- Drills by the names of their steps
+-- Drills by their turns
 
--- whose step it is: an actor's, or the offer of the next
+-- an event in short: a new conversation, the bytes of a delivery, an end
+data Told : Type 0 where
+  Opens : Told
+  Shows : List ℕ → Told
+  Closes : Reason → Told
+
+-- What a step does: a core loads a packet, or the end, asks, gives back, gives an event, or takes an answer back; a worker takes an event
+-- of a core, gives back, or answers.
+data Done : Type 0 where
+  Loads : (number : ℕ) → Done
+  LoadsEnd : Done
+  Asks : LookEntry → Done
+  Frees : Free → Done
+  Emits : Told → Done
+  TakesBack : Told → Done
+  Takes : (core : ℕ) → Told → Done
+  GivesBack : Free → Done
+  Answers : Told → Done
+
+-- whose step it is, and what it does, or the offer of the next
 data Turn : Type 0 where
-  By : Actor → Turn
+  By : Actor → Done → Turn
   Next : Turn
 
--- an actor makes its step, and all before it are idle
-abbrev IsFirstToAct : Setup → List Actor → Actor → Moment → Moment → Type 0
-IsFirstToAct s [] actor m n = ⊥
-IsFirstToAct s (one ∷ others) actor m n = ((one ≡ actor) × Acts s actor m n) ⊎ (IsIdle s m one × IsFirstToAct s others actor m n)
+abbrev told_by : Event → Told
+told_by New = Opens
+told_by (Chunk d) = Shows d.piece.fresh
+told_by (Ended reason) = Closes reason
 
--- a drill without a seed whose steps are these
+abbrev done_by : CoreMove → Done
+done_by (MoveLoads (Brings p)) = Loads p.number
+done_by (MoveLoads (Ends at)) = LoadsEnd
+done_by (MoveAsks look) = Asks look
+done_by (MoveFrees free) = Frees free
+done_by (MoveEmits given) = Emits (told_by given.event)
+done_by (MoveTakesBack reply) = TakesBack (told_by reply.given.event)
+
+-- what an actor's step does
+abbrev done_in : (s : Setup) (actor : Actor) (m n : Moment) → Acts s actor m n → Done
+done_in s (Back c) m n g = done_by g.move
+done_in s (Core c) m n g = done_by g.move
+done_in s (Work w) m n (inl (t, in_turn)) = Takes t.core (told_by t.given.event)
+done_in s (Work w) m n (inr (inl g)) = GivesBack (free_at m.pair g.charge)
+done_in s (Work w) m n (inr (inr g)) = Answers (told_by g.hand.given.event)
+
+-- an actor makes its step, which does this, and all before it are idle
+abbrev IsFirstToAct : Setup → List Actor → Actor → Done → Moment → Moment → Type 0
+IsFirstToAct s [] actor done m n = ⊥
+IsFirstToAct s (one ∷ others) actor done m n = ((one ≡ actor) × (acts : Acts s one m n) × (done_in s one m n acts ≡ done)) ⊎ (IsIdle s m one × IsFirstToAct s others actor done m n)
+
+-- a drill without a seed that has these turns
 abbrev Tells : Setup → List Actor → List Turn → List Offer → Moment → Moment → Type 0
 Tells s all [] offers m n = (n ≡ m) × AreAllIdle s m × (offers ≡ [])
-Tells s all (By actor ∷ turns) offers m n = (k : Moment) × IsFirstToAct s all actor m k × Tells s all turns offers k n
+Tells s all (By actor done ∷ turns) offers m n = (k : Moment) × IsFirstToAct s all actor done m k × Tells s all turns offers k n
 Tells s all (Next ∷ turns) offers m n = (k : Moment) × (left : List Offer) × AreAllIdle s m × OffersNext offers m left k × Tells s all turns left k n
 
-first_acts : (s : Setup) (all : List Actor) (actor : Actor) (m n : Moment) → IsFirstToAct s all actor m n → FirstActs s all m n
-first_acts s [] actor m n h = absurd h
-first_acts s (one ∷ others) actor m n (inl (same, acts)) = inl (subst (λ (x : Actor). Acts s x m n) (sym same) acts)
-first_acts s (one ∷ others) actor m n (inr (idle, rest)) = inr (idle, first_acts s others actor m n rest)
+first_acts : (s : Setup) (all : List Actor) (actor : Actor) (done : Done) (m n : Moment) → IsFirstToAct s all actor done m n → FirstActs s all m n
+first_acts s [] actor done m n h = absurd h
+first_acts s (one ∷ others) actor done m n (inl (same, acts, is)) = inl acts
+first_acts s (one ∷ others) actor done m n (inr (idle, rest)) = inr (idle, first_acts s others actor done m n rest)
 
 -- it is one by the definition
 is_drill : (s : Setup) (all : List Actor) (turns : List Turn) (offers : List Offer) (m n : Moment) → Tells s all turns offers m n → Drills s all (replicate (length turns) Unnamed) offers m n
 is_drill s all [] offers m n h = h
-is_drill s all (By actor ∷ turns) offers m n (k, first, rest) = (k, offers, inl (first_acts s all actor m k first, refl), is_drill s all turns offers k n rest)
+is_drill s all (By actor done ∷ turns) offers m n (k, first, rest) = (k, offers, inl (first_acts s all actor done m k first, refl), is_drill s all turns offers k n rest)
 is_drill s all (Next ∷ turns) offers m n (k, left, idle, next, rest) = (k, left, inr (idle, next), is_drill s all turns left k n rest)
 
 -- Worked out
@@ -152,20 +202,20 @@ module _ (s : Setup) where
 
   -- the first that isn't idle, and where it comes to
   abbrev First : List Actor → Moment → Type 0
-  First all m = (actor : Actor) × (n : Moment) × IsFirstToAct s all actor m n
+  First all m = (actor : Actor) × (done : Done) × (n : Moment) × IsFirstToAct s all actor done m n
 
   abbrev first_of : (all : List Actor) (m : Moment) → Maybe (First all m)
   first_of [] m = inl tt
   first_of (one ∷ others) m = by (does ⊤ s m (needs_at s m) one) (first_of others m)
     where
       behind : IsIdle s m one → Maybe (First others m) → Maybe (First (one ∷ others) m)
-      behind idle (inr (actor, n, rest)) = inr (actor, n, inr (idle, rest))
+      behind idle (inr (actor, done, n, rest)) = inr (actor, done, n, inr (idle, rest))
       behind idle (inl none) = inl tt
 
       by : Does ⊤ s m one → Maybe (First others m) → Maybe (First (one ∷ others) m)
       by (inl none) further = inl tt
       by (inr (inl idle)) further = behind idle further
-      by (inr (inr (n, acts))) further = inr (one, n, inl (refl, acts))
+      by (inr (inr (n, acts))) further = inr (one, done_in s one m n acts, n, inl (refl, acts, refl))
 
   abbrev offered_all : (offer : Offer) (m : Moment) → Maybe ((n : Moment) × OffersAll offer m n)
   offered_all [] m = inr (m, refl)
@@ -192,9 +242,9 @@ module _ (s : Setup) where
       Rest : Type 0
       Rest = (left : List Offer) (k : Moment) → Maybe (Whole all left k)
 
-      acted : (offers : List Offer) (actor : Actor) (k : Moment) → IsFirstToAct s all actor m k → Maybe (Whole all offers k) → Maybe (Whole all offers m)
-      acted offers actor k first (inl none) = inl tt
-      acted offers actor k first (inr (turns, n, rest)) = inr (By actor ∷ turns, n, (k, first, rest))
+      acted : (offers : List Offer) (actor : Actor) (done : Done) (k : Moment) → IsFirstToAct s all actor done m k → Maybe (Whole all offers k) → Maybe (Whole all offers m)
+      acted offers actor done k first (inl none) = inl tt
+      acted offers actor done k first (inr (turns, n, rest)) = inr (By actor done ∷ turns, n, (k, first, rest))
 
       brought : (offer : Offer) (left : List Offer) (k : Moment) → AreAllIdle s m → OffersAll offer m k → Maybe (Whole all left k) → Maybe (Whole all (offer ∷ left) m)
       brought offer left k idle it (inl none) = inl tt
@@ -209,7 +259,7 @@ module _ (s : Setup) where
       still (offer ∷ left) idle rest = next offer left idle (offered_all offer m) rest
 
       by : Maybe (First all m) → Maybe (AreAllIdle s m) → (offers : List Offer) → Rest → Maybe (Whole all offers m)
-      by (inr (actor, k, first)) idle offers rest = acted offers actor k first (rest offers k)
+      by (inr (actor, done, k, first)) idle offers rest = acted offers actor done k first (rest offers k)
       by (inl none) (inr idle) offers rest = still offers idle rest
       by (inl none) (inl other) offers rest = inl tt
 
@@ -243,25 +293,56 @@ goes_by fuel s core_of cores packets turns e = found s _ _ _ (whole s fuel _ _ _
 abbrev sole : Packet → ℕ
 sole p = 0
 
+abbrev ab : List ℕ
+ab = 97 ∷ 98 ∷ []
+
+abbrev cd : List ℕ
+cd = 99 ∷ 100 ∷ []
+
+abbrev abcd : List ℕ
+abcd = 97 ∷ 98 ∷ 99 ∷ 100 ∷ []
+
 -- Of no packet: the end is offered to the core, which loads it and is over.
-nothing_comes : GoesBy small sole 1 [] (Next ∷ By (Core 0) ∷ [])
-nothing_comes = goes_by 8 small sole 1 [] _ refl
+abbrev ending_turns : List Turn
+ending_turns =
+    Next ∷ By (Core 0) LoadsEnd ∷ []
+
+nothing_comes : GoesBy small sole 1 [] ending_turns
+nothing_comes = goes_by 8 small sole 1 [] ending_turns refl
 
 -- Of one datagram that fills a chunk: it is offered; the core loads it, asks, and gives the new conversation's event, which the worker
 -- takes and answers. The answer waits while the entry is under way: the core gives the chunk. Now the answer goes back; the worker
 -- takes the chunk, gives its bytes back and answers; this answer goes back. All are idle, and the end is offered: the core loads it
 -- and gives the end's event; the worker takes it and answers; and the last answer goes back.
-full_chunk : GoesBy small sole 1 (datagram 1 0 (97 ∷ 98 ∷ 99 ∷ 100 ∷ []) ∷ [])
-    (Next ∷ By (Core 0) ∷ By (Core 0) ∷ By (Core 0) ∷ By (Work 0) ∷ By (Work 0) ∷ By (Core 0) ∷ By (Back 0) ∷ By (Work 0) ∷ By (Work 0) ∷ By (Work 0) ∷ By (Back 0)
-    ∷ Next ∷ By (Core 0) ∷ By (Core 0) ∷ By (Work 0) ∷ By (Work 0) ∷ By (Back 0) ∷ [])
-full_chunk = goes_by 20 small sole 1 (datagram 1 0 (97 ∷ 98 ∷ 99 ∷ 100 ∷ []) ∷ []) _ refl
+abbrev full_turns : List Turn
+full_turns =
+    Next ∷ By (Core 0) (Loads 1) ∷ By (Core 0) (Asks (got 4 0 0)) ∷ By (Core 0) (Emits Opens)
+    ∷ By (Work 0) (Takes 0 Opens) ∷ By (Work 0) (Answers Opens)
+    ∷ By (Core 0) (Emits (Shows abcd)) ∷ By (Back 0) (TakesBack Opens)
+    ∷ By (Work 0) (Takes 0 (Shows abcd)) ∷ By (Work 0) (GivesBack (free 4 1)) ∷ By (Work 0) (Answers (Shows abcd))
+    ∷ By (Back 0) (TakesBack (Shows abcd))
+    ∷ Next ∷ By (Core 0) LoadsEnd ∷ By (Core 0) (Emits (Closes Finish))
+    ∷ By (Work 0) (Takes 0 (Closes Finish)) ∷ By (Work 0) (Answers (Closes Finish))
+    ∷ By (Back 0) (TakesBack (Closes Finish)) ∷ []
+
+full_chunk : GoesBy small sole 1 (datagram 1 0 abcd ∷ []) full_turns
+full_chunk = goes_by 20 small sole 1 (datagram 1 0 abcd ∷ []) full_turns refl
 
 -- Of one that leaves its chunk open: with the end the core gives the chunk, which the worker takes, gives back and answers; then the
 -- end's event, which completes the entry, so that the answer to the chunk goes back before the worker takes the end's.
-open_chunk : GoesBy small sole 1 (datagram 1 0 (97 ∷ 98 ∷ []) ∷ [])
-    (Next ∷ By (Core 0) ∷ By (Core 0) ∷ By (Core 0) ∷ By (Work 0) ∷ By (Work 0) ∷ By (Back 0)
-    ∷ Next ∷ By (Core 0) ∷ By (Core 0) ∷ By (Work 0) ∷ By (Work 0) ∷ By (Work 0) ∷ By (Core 0) ∷ By (Back 0) ∷ By (Work 0) ∷ By (Work 0) ∷ By (Back 0) ∷ [])
-open_chunk = goes_by 20 small sole 1 (datagram 1 0 (97 ∷ 98 ∷ []) ∷ []) _ refl
+abbrev open_turns : List Turn
+open_turns =
+    Next ∷ By (Core 0) (Loads 1) ∷ By (Core 0) (Asks (got 2 0 0)) ∷ By (Core 0) (Emits Opens)
+    ∷ By (Work 0) (Takes 0 Opens) ∷ By (Work 0) (Answers Opens)
+    ∷ By (Back 0) (TakesBack Opens)
+    ∷ Next ∷ By (Core 0) LoadsEnd ∷ By (Core 0) (Emits (Shows ab))
+    ∷ By (Work 0) (Takes 0 (Shows ab)) ∷ By (Work 0) (GivesBack (free 2 1)) ∷ By (Work 0) (Answers (Shows ab))
+    ∷ By (Core 0) (Emits (Closes Finish)) ∷ By (Back 0) (TakesBack (Shows ab))
+    ∷ By (Work 0) (Takes 0 (Closes Finish)) ∷ By (Work 0) (Answers (Closes Finish))
+    ∷ By (Back 0) (TakesBack (Closes Finish)) ∷ []
+
+open_chunk : GoesBy small sole 1 (datagram 1 0 ab ∷ []) open_turns
+open_chunk = goes_by 20 small sole 1 (datagram 1 0 ab ∷ []) open_turns refl
 
 -- the first packet to core 0, the second one to core 1
 abbrev in_turn : Packet → ℕ
@@ -269,9 +350,24 @@ in_turn p = p.number - 1
 
 -- Of two such datagrams on two cores with one worker: each is worked off before the next is offered. The end is offered to both cores
 -- at once, and what core 0 begins is whole before core 1 loads it, since core 0 stands before it.
-two_cores : GoesBy small in_turn 2 (datagram 1 0 (97 ∷ 98 ∷ []) ∷ datagram_from 5001 2 0 (99 ∷ 100 ∷ []) ∷ [])
-    (Next ∷ By (Core 0) ∷ By (Core 0) ∷ By (Core 0) ∷ By (Work 0) ∷ By (Work 0) ∷ By (Back 0)
-    ∷ Next ∷ By (Core 1) ∷ By (Core 1) ∷ By (Core 1) ∷ By (Work 0) ∷ By (Work 0) ∷ By (Back 1)
-    ∷ Next ∷ By (Core 0) ∷ By (Core 0) ∷ By (Work 0) ∷ By (Work 0) ∷ By (Work 0) ∷ By (Core 0) ∷ By (Back 0) ∷ By (Work 0) ∷ By (Work 0) ∷ By (Back 0)
-    ∷ By (Core 1) ∷ By (Core 1) ∷ By (Work 0) ∷ By (Work 0) ∷ By (Work 0) ∷ By (Core 1) ∷ By (Back 1) ∷ By (Work 0) ∷ By (Work 0) ∷ By (Back 1) ∷ [])
-two_cores = goes_by 40 small in_turn 2 (datagram 1 0 (97 ∷ 98 ∷ []) ∷ datagram_from 5001 2 0 (99 ∷ 100 ∷ []) ∷ []) _ refl
+abbrev both_turns : List Turn
+both_turns =
+    Next ∷ By (Core 0) (Loads 1) ∷ By (Core 0) (Asks (got 2 0 0)) ∷ By (Core 0) (Emits Opens)
+    ∷ By (Work 0) (Takes 0 Opens) ∷ By (Work 0) (Answers Opens)
+    ∷ By (Back 0) (TakesBack Opens)
+    ∷ Next ∷ By (Core 1) (Loads 2) ∷ By (Core 1) (Asks (got 2 1 2)) ∷ By (Core 1) (Emits Opens)
+    ∷ By (Work 0) (Takes 1 Opens) ∷ By (Work 0) (Answers Opens)
+    ∷ By (Back 1) (TakesBack Opens)
+    ∷ Next ∷ By (Core 0) LoadsEnd ∷ By (Core 0) (Emits (Shows ab))
+    ∷ By (Work 0) (Takes 0 (Shows ab)) ∷ By (Work 0) (GivesBack (free 2 2)) ∷ By (Work 0) (Answers (Shows ab))
+    ∷ By (Core 0) (Emits (Closes Finish)) ∷ By (Back 0) (TakesBack (Shows ab))
+    ∷ By (Work 0) (Takes 0 (Closes Finish)) ∷ By (Work 0) (Answers (Closes Finish))
+    ∷ By (Back 0) (TakesBack (Closes Finish))
+    ∷ By (Core 1) LoadsEnd ∷ By (Core 1) (Emits (Shows cd))
+    ∷ By (Work 0) (Takes 1 (Shows cd)) ∷ By (Work 0) (GivesBack (free 2 3)) ∷ By (Work 0) (Answers (Shows cd))
+    ∷ By (Core 1) (Emits (Closes Finish)) ∷ By (Back 1) (TakesBack (Shows cd))
+    ∷ By (Work 0) (Takes 1 (Closes Finish)) ∷ By (Work 0) (Answers (Closes Finish))
+    ∷ By (Back 1) (TakesBack (Closes Finish)) ∷ []
+
+two_cores : GoesBy small in_turn 2 (datagram 1 0 ab ∷ datagram_from 5001 2 0 cd ∷ []) both_turns
+two_cores = goes_by 40 small in_turn 2 (datagram 1 0 ab ∷ datagram_from 5001 2 0 cd ∷ []) both_turns refl
