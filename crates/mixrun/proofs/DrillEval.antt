@@ -18,7 +18,7 @@ use Rattle.coretable.specs.Course.{Course, Stop, Step, step, GoesOn, After, Come
 use Rattle.coretable.specs.Course.Step.{Goes, Stops}
 use Rattle.mixrun.specs.declared.actor.Actor.{Actor}
 use Rattle.mixrun.specs.declared.actor.Actor.TheVariants.{Back, Work, Core}
-use Rattle.mixrun.specs.Moment.{Setup, Input, AtCore, Pair, Moment}
+use Rattle.mixrun.specs.Moment.{Setup, AtCore, Pair, Moment}
 use Rattle.mixrun.specs.Moment.Input.{Brings, Ends}
 use Rattle.mixrun.specs.Moves.{CoreMove, free_at}
 use Rattle.mixrun.specs.Moves.CoreMove.{Loads as MoveLoads, Asks as MoveAsks, Frees as MoveFrees, Emits as MoveEmits, TakesBack as MoveTakesBack}
