@@ -26,7 +26,7 @@ use Rattle.coretable.specs.declared.entry_kind.EntryKind.{EntryKind}
 use Rattle.coretable.specs.declared.entry_kind.EntryKind.TheVariants as D
 use Rattle.coretable.specs.declared.active.Active.{Active}
 use Rattle.coretable.specs.declared.desk.Desk.{Desk}
-use Rattle.coretable.specs.Standing.{Beside, beside, AreDue, entry_in, entry_for, present, with_under, unanswered_with, ids_of, AreSlots, IsIndexed, AreUnanswered, IsOwedAt, AreEnded, place_of, hole_of, Keeps, IsActive}
+use Rattle.coretable.specs.Standing.{Beside, beside, beside_of, Recalls, talk_before, AreDue, entry_in, entry_for, present, with_under, unanswered_with, ids_of, AreSlots, IsIndexed, AreUnanswered, IsOwedAt, AreEnded, place_of, hole_of, Keeps, IsActive}
 use Rattle.coretable.specs.Turns.{IsFresh, AtLook, AtFree, AtEvent}
 use Rattle.coretable.proofs.SettleLemmas.{event_next}
 
@@ -61,7 +61,7 @@ module _ {D : Type 0} (Stands : D → Talk → Phase → Type 0) where
   kept_with : (t : Terms) (m : Course) (u : Under) (act : Act) (desk : Desk D) → found_by (core_of t m) u.line ≡ found_by (core_of t m) (record u.line { act = act }) → is_answer act ≡ is_answer u.line.act → u.emitted ≡ 0
       → m.under ≡ Some u → Keeps Stands t m desk → Keeps Stands t (course_with m u act) desk
   kept_with t m u act desk f a e under k = record {
-    slots = subst (λ l. AreSlots Stands (Some u.line.conv) l desk.slots.items) is (subst (λ h. AreSlots Stands h (present t m) desk.slots.items) (ap hole_of under) k.slots);
+    slots = subst (λ l. AreSlots (Recalls Stands t m.lines) (Some u.line.conv) l desk.slots.items) is (subst (λ h. AreSlots (Recalls Stands t m.lines) h (present t m) desk.slots.items) (ap hole_of under) k.slots);
     index = λ key. subst (λ l. IsIndexed l (place_of desk key) (latest_of key l)) is (k.index key);
     dues = subst (λ l. AreDue t (Some u.line.conv) l desk.dues) is (subst (λ h. AreDue t h (present t m) desk.dues) (ap hole_of under) k.dues);
     queue = subst (λ l. AreUnanswered (ids_of l) desk.unanswered.items (unanswered_with t (core_of t m) (Some (with_act u act)))) is
@@ -170,11 +170,10 @@ free_in free (End at r l f) = refl
 -- An entry whose conversation told what it wants next.
 pub record Ready {C D : Type 0} (paid : C → Charge) (Stands : D → Talk → Phase → Type 0) (t : Terms) (m : Course) (desk : Desk D) (a : Active D) (w : Want C) : Type 0 where
   pub u : Under
-  pub owed : Beside
   pub keeps : Keeps Stands t m desk
   pub active : IsActive t m u a
   pub fresh : IsFresh t m u
-  pub turn : IsWantOf paid (λ k g. Stands a.talk k g) t (beside (found_by (core_of t m) u.line) owed) u.line.act u.emitted w
+  pub turn : IsWantOf paid (λ k g. Stands a.talk k g) t (talk_before t m u) u.line.act u.emitted w
 
 module _ {C D : Type 0} (paid : C → Charge) (Stands : D → Talk → Phase → Type 0) where
   pub ready_told : (t : Terms) (m : Course) (desk : Desk D) (a0 a1 a2 : Active D) (look : LookEntry) (granted : Option C) (w : Want C) (l : AtLook paid Stands t m desk a0 look granted)
@@ -184,7 +183,6 @@ module _ {C D : Type 0} (paid : C → Charge) (Stands : D → Talk → Phase →
       → Ready paid Stands t m desk a2 w
   ready_told t m desk a0 a1 a2 look granted w l e1 r1 r2 turn = subst (λ x. Ready paid Stands t x desk a2 w) (sym l.is) (record {
     u = with_act u act;
-    owed = l.at.works.owed;
     keeps = kept_with Stands t l.before u act desk found (look_kind look u.line.act) none h.under l.at.keeps;
     active = active_with Stands t l.before u act a0 a2 found h (ap (λ (a : Active D). a.place) r2 ∙ ap (λ (a : Active D). a.place) r1) (ap (λ (a : Active D). a.number) r2 ∙ ap (λ (a : Active D). a.number) r1)
         (ap (λ (a : Active D). a.clock) r2 ∙ ap (λ (a : Active D). a.clock) r1)
@@ -192,7 +190,7 @@ module _ {C D : Type 0} (paid : C → Charge) (Stands : D → Talk → Phase →
         ∙ look_for look a0.kind a0.looks.items a0.frees.items ∙ ap (more_look look) h.entry ∙ look_in look u.line.act)
         (look_clock t (found_by (core_of t l.before) u.line) look u.line.act);
     fresh = inl none;
-    turn = subst (λ c. IsWantOf paid (λ k g. Stands a2.talk k g) t (beside c l.at.works.owed) act u.emitted w) found (turn l.at.works.owed l.at.works.talk);
+    turn = subst (λ c. IsWantOf paid (λ k g. Stands a2.talk k g) t (beside c (beside_of t l.before.lines u.line.conv)) act u.emitted w) found (turn (beside_of t l.before.lines u.line.conv) l.at.works.talk);
   })
     where
       u : Under
@@ -217,7 +215,6 @@ module _ {C D : Type 0} (paid : C → Charge) (Stands : D → Talk → Phase →
       → Ready paid Stands t m desk a2 w
   ready_freed t m desk a0 a1 a2 free w l e1 r1 r2 turn = subst (λ x. Ready paid Stands t x desk a2 w) (sym l.is) (record {
     u = with_act u act;
-    owed = l.at.works.owed;
     keeps = kept_with Stands t l.before u act desk found (free_kind free u.line.act) none h.under l.at.keeps;
     active = active_with Stands t l.before u act a0 a2 found h (ap (λ (a : Active D). a.place) r2 ∙ ap (λ (a : Active D). a.place) r1) (ap (λ (a : Active D). a.number) r2 ∙ ap (λ (a : Active D). a.number) r1)
         (ap (λ (a : Active D). a.clock) r2 ∙ ap (λ (a : Active D). a.clock) r1)
@@ -225,7 +222,7 @@ module _ {C D : Type 0} (paid : C → Charge) (Stands : D → Talk → Phase →
         ∙ free_for free a0.kind a0.looks.items a0.frees.items ∙ ap (more_free free) h.entry ∙ free_in free u.line.act)
         (free_clock t (found_by (core_of t l.before) u.line) free u.line.act);
     fresh = inl none;
-    turn = subst (λ c. IsWantOf paid (λ k g. Stands a2.talk k g) t (beside c l.at.works.owed) act u.emitted w) found (turn l.at.works.owed l.at.works.talk);
+    turn = subst (λ c. IsWantOf paid (λ k g. Stands a2.talk k g) t (beside c (beside_of t l.before.lines u.line.conv)) act u.emitted w) found (turn (beside_of t l.before.lines u.line.conv) l.at.works.talk);
   })
     where
       u : Under
@@ -249,7 +246,6 @@ module _ {C D : Type 0} (paid : C → Charge) (Stands : D → Talk → Phase →
       → Ready paid Stands t m desk a2 w
   ready_emitted t m desk a0 a2 w l r2 turn = subst (λ x. Keeps Stands t x desk → Ready paid Stands t x desk a2 w) (sym l.is) (λ k. record {
     u = record l.u { emitted = suc l.u.emitted };
-    owed = l.works.owed;
     keeps = k;
     active = record {
       under = refl;
@@ -259,7 +255,7 @@ module _ {C D : Type 0} (paid : C → Charge) (Stands : D → Talk → Phase →
       clock = ap (λ (a : Active D). a.clock) r2 ∙ h.clock;
     };
     fresh = inr (event_next t (found_by (core_of t l.before) l.u.line) l.u.line.act l.u.emitted l.event l.wants).1;
-    turn = turn l.works.owed l.works.talk;
+    turn = turn (beside_of t l.before.lines l.u.line.conv) l.works.talk;
   }) l.keeps
     where
       h : IsActive t l.before l.u a0

@@ -38,7 +38,8 @@ use Rattle.coretable.specs.declared.desk.Desk.{Desk}
 use Rattle.coretable.specs.declared.entry_kind.EntryKind.{EntryKind}
 use Rattle.coretable.specs.declared.entry_kind.EntryKind.TheVariants as D
 use Rattle.coretable.specs.declared.active.Active.{Active}
-use Rattle.coretable.specs.Standing.{Beside, beside, beside_after, AreDue, entry_of, entry_in, entry_for, present, with_under, hole_of, unanswered_with, AreSlots, IsIndexed, ids_of, AreUnanswered, IsOwedAt, AreEnded, job_of, owed_place, answered_by, owed_by_kind, place_of, Keeps, IsActive}
+use Rattle.coretable.specs.Standing.{Beside, beside, beside_of, Recalls, talk_before, AreDue, entry_of, entry_in, entry_for, present, with_under, hole_of, unanswered_with, AreSlots, IsIndexed, ids_of, AreUnanswered, IsOwedAt, AreEnded, job_of, owed_place, answered_by, owed_by_kind, place_of, Keeps, IsActive}
+use Rattle.coretable.proofs.Told.{told_on, told_other}
 use Rattle.coretable.proofs.Slots.{put_twice, ids_put, indexed_put, ended_put, slots_put, dues_put}
 use Rattle.coretable.specs.Moments.{moment_of}
 use Rattle.std.specs.FinMap.{get as moment_in}
@@ -256,16 +257,17 @@ pub record IsCompleted {T : Type 0} (t : Terms) (m : Course) (u : Under) (a : Ac
   pub cursor : new.cursor ≡ old.cursor
 
 module _ {T : Type 0} (Stands : T → Talk → Phase → Type 0) where
-  pub kept_completed : (t : Terms) (last : ℕ) (handler : Handler) (m : Course) (u : Under) (a : Active T) (old new : Desk T) (s : Slot T) (talk : T) (owed : Beside)
+  pub kept_completed : (t : Terms) (last : ℕ) (handler : Handler) (m : Course) (u : Under) (a : Active T) (old new : Desk T) (s : Slot T) (talk : T)
       → IsSound t last handler m → Keeps Stands t m old → IsActive t m u a → want_of t m u ≡ Rest
-      → Stands talk (talk_after t (beside (found_by (core_of t m) u.line) owed) u.line.act) Still
-      → IsCompleted t m u a old new s a.clock talk (owed_after t (beside (found_by (core_of t m) u.line) owed) u.line.act)
+      → Stands talk (talk_after t (talk_before t m u) u.line.act) Still
+      → IsCompleted t m u a old new s a.clock talk (owed_after t (talk_before t m u) u.line.act)
       → Keeps Stands t (completed m u) new
-  kept_completed t last handler m u a old new s talk owed sound k act rest st new_is = record {
-    slots = subst (λ l. AreSlots Stands None l new.slots.items) (sym present_is)
-        (subst (AreSlots Stands None (put_convo conv c' (present t m))) (sym new_is.slots)
-        (slots_put Stands 0 conv a.place a.clock c' talk (beside_after t c owed u.line.act) (present t m) (record { id = conv; convo = c }) old.slots.items s w.rises
-        (subst (λ h. AreSlots Stands h (present t m) old.slots.items) (ap hole_of act.under) k.slots) act.place refl new_is.at (first_stays t c u.line.act) act.clock st));
+  kept_completed t last handler m u a old new s talk sound k act rest st new_is = record {
+    slots = subst (λ l. AreSlots (Recalls Stands t (completed m u).lines) None l new.slots.items) (sym present_is)
+        (subst (AreSlots (Recalls Stands t (completed m u).lines) None (put_convo conv c' (present t m))) (sym new_is.slots)
+        (slots_put (Recalls Stands t (completed m u).lines) (Recalls Stands t m.lines) 0 conv a.place a.clock c' talk (present t m) (record { id = conv; convo = c }) old.slots.items s w.rises stays
+        (subst (λ h. AreSlots (Recalls Stands t m.lines) h (present t m) old.slots.items) (ap hole_of act.under) k.slots) act.place refl new_is.at (first_stays t c u.line.act) act.clock
+        (subst (λ k. Stands talk k Still) (sym (told_on t m.lines u.line)) st)));
     index = λ key. subst (λ l. IsIndexed l (place_of new key) (latest_of key l)) (sym present_is) (indexed_put conv c' c (present t m) key (place_of new key) w.rises w.found (first_stays t c u.line.act) (subst (λ i. IsIndexed (present t m) (get key_eq.eq-value.it i key) (latest_of key (present t m))) (sym new_is.index) (k.index key)));
     dues = subst (λ l. AreDue t None l new.dues) (sym present_is)
         (dues_put t conv a.place c' c (record { id = conv; convo = c }) (present t m) old.dues new.dues w.rises w.found act.place refl new_is.dues (subst (λ h. AreDue t h (present t m) old.dues) (ap hole_of act.under) k.dues));
@@ -290,6 +292,12 @@ module _ {T : Type 0} (Stands : T → Talk → Phase → Type 0) where
 
       c' : Convo
       c' = after t c u.line.act
+
+      owed : Beside
+      owed = beside_of t m.lines conv
+
+      stays : (o : Open) (x : T) → (conv == o.id) ≡ false → Recalls Stands t m.lines o x → Recalls Stands t (completed m u).lines o x
+      stays o x n h = subst (λ b. Stands x (beside o.convo b) Still) (sym (told_other t m.lines u.line o.id n)) h
 
       w : World t m u
       w = world t last handler m u sound act.under
@@ -329,18 +337,18 @@ module _ {T : Type 0} (Stands : T → Talk → Phase → Type 0) where
           (owed_there (ids_of (present t (completed m u))) a.place conv (ending t c u.line.act) (ap (λ l. slice_get l a.place) (sym ids_are) ∙ got_mapped (λ (o : Open). o.id) (present t m) a.place (record { id = conv; convo = c }) act.place)))
 
   -- by the steps that the code makes
-  slot_at : (hole : Option ℕ) (os : List Open) (ss : List (Slot T)) (place : ℕ) (o : Open) → AreSlots Stands hole os ss → slice_get os place ≡ Some o → (s : Slot T) × (slice_get ss place ≡ Some s)
-  slot_at hole [] [] zero o h g = absurd cc
-  slot_at hole [] [] (suc n) o h g = absurd cc
-  slot_at hole [] (s ∷ ss) n o h g = absurd h
-  slot_at hole (x ∷ os) [] n o h g = absurd h
-  slot_at hole (x ∷ os) (s ∷ ss) zero o h g = (s, refl)
-  slot_at hole (x ∷ os) (s ∷ ss) (suc n) o h g = slot_at hole os ss n o h.1 g
+  slot_at : (Is : Open → T → Type 0) (hole : Option ℕ) (os : List Open) (ss : List (Slot T)) (place : ℕ) (o : Open) → AreSlots Is hole os ss → slice_get os place ≡ Some o → (s : Slot T) × (slice_get ss place ≡ Some s)
+  slot_at Is hole [] [] zero o h g = absurd cc
+  slot_at Is hole [] [] (suc n) o h g = absurd cc
+  slot_at Is hole [] (s ∷ ss) n o h g = absurd h
+  slot_at Is hole (x ∷ os) [] n o h g = absurd h
+  slot_at Is hole (x ∷ os) (s ∷ ss) zero o h g = (s, refl)
+  slot_at Is hole (x ∷ os) (s ∷ ss) (suc n) o h g = slot_at Is hole os ss n o h.1 g
 
-  pub completes : (t : Terms) (last : ℕ) (handler : Handler) (m : Course) (u : Under) (a : Active T) (d0 d1 d2 d3 d4 : Desk T) (owed : Beside) (ending : Option (Reason × ℕ)) (due : Option (ℕ × Bool))
+  pub completes : (t : Terms) (last : ℕ) (handler : Handler) (m : Course) (u : Under) (a : Active T) (d0 d1 d2 d3 d4 : Desk T) (ending : Option (Reason × ℕ)) (due : Option (ℕ × Bool))
       → IsSound t last handler m → Keeps Stands t m d0 → IsActive t m u a → want_of t m u ≡ Rest
-      → Stands a.talk (talk_after t (beside (found_by (core_of t m) u.line) owed) u.line.act) Still
-      → ending ≡ owed_after t (beside (found_by (core_of t m) u.line) owed) u.line.act
+      → Stands a.talk (talk_after t (talk_before t m u) u.line.act) Still
+      → ending ≡ owed_after t (talk_before t m u) u.line.act
       → due ≡ due_of t (after t (found_by (core_of t m) u.line) u.line.act)
       → d1 ≡ record d0 { answered = answered_by a.kind d0.answered; owed = owed_by_kind a.kind d0.owed (owed_place a.place ending) }
       → IfSome (slice_get d1.slots.items a.place) (λ s. d2.slots.items ≡ slice_set d1.slots.items a.place (record s { clock = a.clock; talk = Some a.talk }))
@@ -350,12 +358,12 @@ module _ {T : Type 0} (Stands : T → Talk → Phase → Type 0) where
       → d4.book.items ≡ d3.book.items ++ record { conv = a.number; entry = entry_for a.kind a.looks.items a.frees.items } ∷ []
       → d4 ≡ record d3 { book = d4.book }
       → Keeps Stands t (completed m u) d4
-  completes t last handler m u a d0 d1 d2 d3 d4 owed ending due sound k act rest st ee ed e1 e2s e2 e3d e3 e4b e4 =
-      let got = slot_at (hole_of m.under) (present t m) d0.slots.items a.place (record { id = u.line.conv; convo = found_by (core_of t m) u.line }) k.slots act.place in
+  completes t last handler m u a d0 d1 d2 d3 d4 ending due sound k act rest st ee ed e1 e2s e2 e3d e3 e4b e4 =
+      let got = slot_at (Recalls Stands t m.lines) (hole_of m.under) (present t m) d0.slots.items a.place (record { id = u.line.conv; convo = found_by (core_of t m) u.line }) k.slots act.place in
       let slots1 : d1.slots ≡ d0.slots = ap (λ (d : Desk T). d.slots) e1 in
       let put : d2.slots.items ≡ slice_set d1.slots.items a.place (record got.0 { clock = a.clock; talk = Some a.talk }) =
       subst (λ o. IfSome o (λ s. d2.slots.items ≡ slice_set d1.slots.items a.place (record s { clock = a.clock; talk = Some a.talk }))) (ap (λ l. slice_get l a.place) (λ i. (slots1 i).items) ∙ got.1) e2s in
-      kept_completed t last handler m u a d0 d4 got.0 a.talk owed sound k act rest st (record {
+      kept_completed t last handler m u a d0 d4 got.0 a.talk sound k act rest st (record {
         at = got.1;
         slots = (λ i. (e4 i).slots.items) ∙ (λ i. (e3 i).slots.items) ∙ put ∙ (λ i. slice_set (slots1 i).items a.place (record got.0 { clock = a.clock; talk = Some a.talk }));
         index = ap (λ (d : Desk T). d.index) e4 ∙ ap (λ (d : Desk T). d.index) e3 ∙ ap (λ (d : Desk T). d.index) e2 ∙ ap (λ (d : Desk T). d.index) e1;

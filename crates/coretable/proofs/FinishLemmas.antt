@@ -16,7 +16,7 @@ use Rattle.coretable.specs.declared.desk.Desk.{Desk}
 use Rattle.coretable.specs.declared.owed.Owed.{Owed as OwedAt}
 use Rattle.coretable.specs.Standing.{IsOwedAt, ids_of}
 use Rattle.std.specs.Prelude.{Option}
-use Rattle.coretable.specs.Standing.{beside, present, with_under, hole_of, IsSlotOf, AreSlots, AreEnded, Keeps}
+use Rattle.coretable.specs.Standing.{beside, beside_of, Recalls, present, with_under, hole_of, IsSlotOf, AreSlots, AreEnded, Keeps}
 use Rattle.coretable.proofs.BeginLemmas.{slot_of}
 use Rattle.coretable.proofs.PlanLemmas.{keeps_some}
 use Rattle.coretable.proofs.OpenLemmas.{slots_many}
@@ -45,11 +45,11 @@ module _ {D : Type 0} (Stands : D → Talk → Phase → Type 0) where
       → ((k : Talk) (talk : D) → slot.talk ≡ Some talk → Stands talk k Still → IfOk r (λ b. b ≡ is_live k.convo)) → IfOk r (λ b. b ≡ is_live o.convo)
   live_by t m desk place o slot r under k at got by =
       let was : present t m ≡ (core_of t m).convos = ap (with_under t (core_of t m)) under in
-      let slots : AreSlots Stands None (core_of t m).convos desk.slots.items = subst (λ l. AreSlots Stands None l desk.slots.items) was (subst (λ h. AreSlots Stands h (present t m) desk.slots.items) (ap hole_of under) k.slots) in
-      let there = slot_of Stands (core_of t m).convos desk.slots.items place o slots at in
-      let here : IsSlotOf Stands None o slot = subst (IsSlotOf Stands None o) (some_same (sym there.1 ∙ got)) there.2 in
-      let talk = keeps_some Stands o.convo slot.talk here.talk in
-      by (beside (o.convo) talk.1) talk.0 talk.2 talk.3
+      let slots : AreSlots (Recalls Stands t m.lines) None (core_of t m).convos desk.slots.items = subst (λ l. AreSlots (Recalls Stands t m.lines) None l desk.slots.items) was (subst (λ h. AreSlots (Recalls Stands t m.lines) h (present t m) desk.slots.items) (ap hole_of under) k.slots) in
+      let there = slot_of (Recalls Stands t m.lines) (core_of t m).convos desk.slots.items place o slots at in
+      let here : IsSlotOf (Recalls Stands t m.lines) None o slot = subst (IsSlotOf (Recalls Stands t m.lines) None o) (some_same (sym there.1 ∙ got)) there.2 in
+      let talk = keeps_some (Recalls Stands t m.lines) o slot.talk here.talk in
+      by (beside o.convo (beside_of t m.lines o.id)) talk.0 talk.1 talk.2
     where
       some_same : {y z : Slot D} → Some y ≡ Some z → y ≡ z
       some_same e = cc
@@ -60,7 +60,7 @@ module _ {D : Type 0} (Stands : D → Talk → Phase → Type 0) where
   got_within (x ∷ os) (suc n) l = got_within os n (omega (arith, l))
 
   many : (t : Terms) (m : Course) (desk : Desk D) → m.under ≡ None → Keeps Stands t m desk → length desk.slots.items ≡ length (core_of t m).convos
-  many t m desk e k = slots_many Stands (hole_of m.under) (present t m) desk.slots.items k.slots ∙ ap (λ u. length (with_under t (core_of t m) u)) e
+  many t m desk e k = slots_many (Recalls Stands t m.lines) (hole_of m.under) (present t m) desk.slots.items k.slots ∙ ap (λ u. length (with_under t (core_of t m) u)) e
 
   pub found_first : (t : Terms) (m : Course) (desk : Desk D) (place count : ℕ) (b : Bool) → m.under ≡ None → Keeps Stands t m desk → AreEnded place (core_of t m).convos → place < count → count ≡ length desk.slots.items → b ≡ true
       → ((o : Open) → slice_get (core_of t m).convos place ≡ Some o → b ≡ is_live o.convo)
@@ -76,11 +76,11 @@ module _ {D : Type 0} (Stands : D → Talk → Phase → Type 0) where
       → slice_get desk.slots.items place ≡ Some slot → ((k : Talk) (talk : D) → slot.talk ≡ Some talk → Stands talk k Still → IfOk r (P k.convo)) → IfOk r (P o.convo)
   at_slot P t m desk place o slot r under k at got by =
       let was : present t m ≡ (core_of t m).convos = ap (with_under t (core_of t m)) under in
-      let slots : AreSlots Stands None (core_of t m).convos desk.slots.items = subst (λ l. AreSlots Stands None l desk.slots.items) was (subst (λ h. AreSlots Stands h (present t m) desk.slots.items) (ap hole_of under) k.slots) in
-      let there = slot_of Stands (core_of t m).convos desk.slots.items place o slots at in
-      let here : IsSlotOf Stands None o slot = subst (IsSlotOf Stands None o) (some_same (sym there.1 ∙ got)) there.2 in
-      let talk = keeps_some Stands o.convo slot.talk here.talk in
-      by (beside (o.convo) talk.1) talk.0 talk.2 talk.3
+      let slots : AreSlots (Recalls Stands t m.lines) None (core_of t m).convos desk.slots.items = subst (λ l. AreSlots (Recalls Stands t m.lines) None l desk.slots.items) was (subst (λ h. AreSlots (Recalls Stands t m.lines) h (present t m) desk.slots.items) (ap hole_of under) k.slots) in
+      let there = slot_of (Recalls Stands t m.lines) (core_of t m).convos desk.slots.items place o slots at in
+      let here : IsSlotOf (Recalls Stands t m.lines) None o slot = subst (IsSlotOf (Recalls Stands t m.lines) None o) (some_same (sym there.1 ∙ got)) there.2 in
+      let talk = keeps_some (Recalls Stands t m.lines) o slot.talk here.talk in
+      by (beside o.convo (beside_of t m.lines o.id)) talk.0 talk.1 talk.2
     where
       some_same : {y z : Slot D} → Some y ≡ Some z → y ≡ z
       some_same e = cc

@@ -24,10 +24,11 @@ use Rattle.coretable.specs.declared.owed.Owed.{Owed as OwedAt}
 use Rattle.coretable.specs.declared.job.Job.TheVariants as J
 use Rattle.coretable.specs.declared.active.Active.{Active}
 use Rattle.coretable.specs.declared.desk.Desk.{Desk}
-use Rattle.coretable.specs.Standing.{beside, nothing_beside, AreDue, entry_in, entry_for, present, with_under, unanswered_with, ids_of, KeepsTalk, IsSlotOf, AreSlots, IsIndexed, AreUnanswered, IsOwedAt, AreEnded, job_of, place_of, hole_of, Keeps}
+use Rattle.coretable.specs.Standing.{beside, nothing_beside, Recalls, AreDue, entry_in, entry_for, present, with_under, unanswered_with, ids_of, KeepsTalk, IsSlotOf, AreSlots, IsIndexed, AreUnanswered, IsOwedAt, AreEnded, job_of, place_of, hole_of, Keeps}
 use Rattle.coretable.proofs.BeginLemmas.{emptied, waits_begun}
 use Rattle.coretable.proofs.AnswerLemmas.{Ready}
 use Rattle.coretable.proofs.Slots.{dues_end}
+use Rattle.coretable.proofs.Told.{beside_none}
 
 -- Lists that grow by one.
 module _ {X : Type 0} where
@@ -72,19 +73,20 @@ owed_front ids more None (Some o) h = absurd h
 owed_front ids more (Some a) None h = absurd h
 owed_front ids more (Some a) (Some o) h = (got_front ids more a.place o.conv h.0, h.1, h.2)
 
-module _ {D : Type 0} (Stands : D → Talk → Phase → Type 0) where
-  pub slots_many : (hole : Option ℕ) (os : List Open) (ss : List (Slot D)) → AreSlots Stands hole os ss → length ss ≡ length os
+module _ {D : Type 0} (Is : Open → D → Type 0) where
+  pub slots_many : (hole : Option ℕ) (os : List Open) (ss : List (Slot D)) → AreSlots Is hole os ss → length ss ≡ length os
   slots_many hole [] [] h = refl
   slots_many hole [] (s ∷ ss) h = absurd h
   slots_many hole (o ∷ os) [] h = absurd h
   slots_many hole (o ∷ os) (s ∷ ss) h = ap suc (slots_many hole os ss h.1)
 
-  slots_end : (hole : Option ℕ) (os : List Open) (ss : List (Slot D)) (o : Open) (s : Slot D) → AreSlots Stands hole os ss → IsSlotOf Stands hole o s → AreSlots Stands hole (os ++ o ∷ []) (ss ++ s ∷ [])
+  slots_end : (hole : Option ℕ) (os : List Open) (ss : List (Slot D)) (o : Open) (s : Slot D) → AreSlots Is hole os ss → IsSlotOf Is hole o s → AreSlots Is hole (os ++ o ∷ []) (ss ++ s ∷ [])
   slots_end hole [] [] o s h e = (e, tt)
   slots_end hole [] (x ∷ ss) o s h e = absurd h
   slots_end hole (x ∷ os) [] o s h e = absurd h
   slots_end hole (x ∷ os) (y ∷ ss) o s h e = (h.0, slots_end hole os ss o s h.1 e)
 
+module _ {D : Type 0} (Stands : D → Talk → Phase → Type 0) where
   pub ready_new : {C : Type 0} (paid : C → Charge) (t : Terms) (last : ℕ) (m : Course) (p : PacketKept) (d0 d1 d2 d3 : Desk D) (a : Active D) (place : ℕ) (w : Want C)
       → IsOrderly t last m.number m.clock (Takes (packet_of p)) (core_of t m) → m.under ≡ None → Keeps Stands t m d0
       → d1 ≡ record d0 { job = J.Nothing } → place ≡ length d1.slots.items
@@ -95,12 +97,11 @@ module _ {D : Type 0} (Stands : D → Talk → Phase → Type 0) where
       → Ready paid Stands t (begun m (record { conv = p.number; act = Seg (packet_of p) p.now [] [] })) d3 a w
   ready_new paid t last m p d0 d1 d2 d3 a place w ord under k e1 e_place e2s e2 e3i e3 a_place a_number a_clock a_entry turn = record {
     u = u;
-    owed = nothing_beside;
     keeps = record {
-      slots = subst (λ l. AreSlots Stands (Some p.number) l d3.slots.items) (sym is)
-          (subst (AreSlots Stands (Some p.number) (core.convos ++ new ∷ [])) (sym slots_are)
-          (slots_end (Some p.number) core.convos d0.slots.items new (record { number = p.number; key = p.key; clock = p.now; talk = None }) (emptied Stands p.number core.convos d0.slots.items none slots)
-          (record { number = refl; key = refl; clock = refl; talk = subst (λ b. KeepsTalk Stands b (new_convo (packet_of p)) None) (sym (same_number p.number)) refl })));
+      slots = subst (λ l. AreSlots (Recalls Stands t m.lines) (Some p.number) l d3.slots.items) (sym is)
+          (subst (AreSlots (Recalls Stands t m.lines) (Some p.number) (core.convos ++ new ∷ [])) (sym slots_are)
+          (slots_end (Recalls Stands t m.lines) (Some p.number) core.convos d0.slots.items new (record { number = p.number; key = p.key; clock = p.now; talk = None }) (emptied (Recalls Stands t m.lines) p.number core.convos d0.slots.items none slots)
+          (record { number = refl; key = refl; clock = refl; talk = subst (λ b. KeepsTalk (Recalls Stands t m.lines) b new None) (sym (same_number p.number)) refl })));
       index = λ key. subst (λ l. IsIndexed l (place_of d3 key) (latest_of key l)) (sym is)
           (subst (λ l. IsIndexed (core.convos ++ new ∷ []) l (latest_of key (core.convos ++ new ∷ []))) (sym (e3i key ∙ ap (cond (same_key p.key key) (Some place)) (index_was key)))
           (subst (IsIndexed (core.convos ++ new ∷ []) (cond (same_key p.key key) (Some place) (place_of d0 key))) (sym (latest_end key core.convos new (same_key p.key key) refl))
@@ -131,7 +132,7 @@ module _ {D : Type 0} (Stands : D → Talk → Phase → Type 0) where
       clock = a_clock ∙ ap (λ c. (after t c (Seg (packet_of p) p.now [] [])).clock) (sym found);
     };
     fresh = inl refl;
-    turn = subst (λ c. IsWantOf paid (λ k g. Stands a.talk k g) t (beside c nothing_beside) (Seg (packet_of p) p.now [] []) 0 w) (sym found) turn;
+    turn = subst (λ k. IsWantOf paid (λ k g. Stands a.talk k g) t k (Seg (packet_of p) p.now [] []) 0 w) (λ i. beside (sym found i) (sym (beside_none t m.lines p.number (find_none p.number core.convos none)) i)) turn;
   }
     where
       core : Core
@@ -158,11 +159,11 @@ module _ {D : Type 0} (Stands : D → Talk → Phase → Type 0) where
       was : present t m ≡ core.convos
       was = ap (with_under t core) under
 
-      slots : AreSlots Stands None core.convos d0.slots.items
-      slots = subst (λ l. AreSlots Stands None l d0.slots.items) was (subst (λ h. AreSlots Stands h (present t m) d0.slots.items) (ap hole_of under) k.slots)
+      slots : AreSlots (Recalls Stands t m.lines) None core.convos d0.slots.items
+      slots = subst (λ l. AreSlots (Recalls Stands t m.lines) None l d0.slots.items) was (subst (λ h. AreSlots (Recalls Stands t m.lines) h (present t m) d0.slots.items) (ap hole_of under) k.slots)
 
       many : place ≡ length core.convos
-      many = e_place ∙ (λ i. length (e1 i).slots.items) ∙ slots_many None core.convos d0.slots.items slots
+      many = e_place ∙ (λ i. length (e1 i).slots.items) ∙ slots_many (Recalls Stands t m.lines) None core.convos d0.slots.items slots
 
       slots_are : d3.slots.items ≡ d0.slots.items ++ record { number = p.number; key = p.key; clock = p.now; talk = None } ∷ []
       slots_are = (λ i. (e3 i).slots.items) ∙ e2s ∙ (λ i. (e1 i).slots.items ++ record { number = p.number; key = p.key; clock = p.now; talk = None } ∷ [])

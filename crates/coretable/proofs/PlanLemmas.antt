@@ -22,7 +22,7 @@ use Rattle.coretable.specs.declared.slot.Slot.{Slot}
 use Rattle.coretable.specs.declared.choosing.Verdict.{Verdict}
 use Rattle.coretable.specs.declared.choosing.Verdict.TheVariants as V
 use Rattle.coretable.specs.declared.desk.Desk.{Desk}
-use Rattle.coretable.specs.Standing.{Beside, beside, present, with_under, hole_of, KeepsTalk, IsSlotOf, AreSlots, IsIndexed, ids_of, unanswered_with, AreUnanswered, IsOwedAt, place_of, Keeps}
+use Rattle.coretable.specs.Standing.{beside, beside_of, Recalls, present, with_under, hole_of, KeepsTalk, IsSlotOf, AreSlots, IsIndexed, ids_of, unanswered_with, AreUnanswered, IsOwedAt, place_of, Keeps}
 use Rattle.coretable.specs.Verdicts.{verdict_line, StandsAt, IsThere, IsPlan}
 use Rattle.coretable.proofs.BeginLemmas.{slot_of}
 
@@ -31,11 +31,11 @@ there_at core id place V.Open h = tt
 there_at core id place V.Seg h = h
 there_at core id place V.Replaces h = h
 
-module _ {D : Type 0} (Stands : D → Talk → Phase → Type 0) where
-  pub keeps_some : (c : Convo) (talk : Option D) → KeepsTalk Stands false c talk → (x : D) × (owed : Beside) × (talk ≡ Some x) × Stands x (beside c owed) Still
-  keeps_some c None h = absurd h
-  keeps_some c (Some x) h = (x, h.0, refl, h.1)
+pub keeps_some : {D : Type 0} (Is : Open → D → Type 0) (o : Open) (talk : Option D) → KeepsTalk Is false o talk → (x : D) × (talk ≡ Some x) × Is o x
+keeps_some Is o None h = absurd h
+keeps_some Is o (Some x) h = (x, refl, h)
 
+module _ {D : Type 0} (Stands : D → Talk → Phase → Type 0) where
   latest_at_place : (os : List Open) (place : Option ℕ) (n : ℕ) (latest : Option Open) → place ≡ Some n → IsIndexed os place latest → (o : Open) × (latest ≡ Some o) × (slice_get os n ≡ Some o)
   latest_at_place os None n latest e h = absurd cc
   latest_at_place os (Some m) n None e h = absurd h
@@ -48,13 +48,13 @@ module _ {D : Type 0} (Stands : D → Talk → Phase → Type 0) where
   planned t m p desk place slot v under k at got by =
       let was : present t m ≡ (core_of t m).convos = ap (with_under t (core_of t m)) under in
       let latest = latest_at_place (core_of t m).convos (place_of desk p.key) place (latest_of p.key (core_of t m).convos) at (subst (λ l. IsIndexed l (place_of desk p.key) (latest_of p.key l)) was (k.index p.key)) in
-      let slots : AreSlots Stands None (core_of t m).convos desk.slots.items = subst (λ l. AreSlots Stands None l desk.slots.items) was (subst (λ h. AreSlots Stands h (present t m) desk.slots.items) (ap hole_of under) k.slots) in
-      let there = slot_of Stands (core_of t m).convos desk.slots.items place latest.0 slots latest.2 in
-      let here : IsSlotOf Stands None latest.0 slot = subst (IsSlotOf Stands None latest.0) (some_same (sym there.1 ∙ got)) there.2 in
-      let talk = keeps_some latest.0.convo slot.talk here.talk in
+      let slots : AreSlots (Recalls Stands t m.lines) None (core_of t m).convos desk.slots.items = subst (λ l. AreSlots (Recalls Stands t m.lines) None l desk.slots.items) was (subst (λ h. AreSlots (Recalls Stands t m.lines) h (present t m) desk.slots.items) (ap hole_of under) k.slots) in
+      let there = slot_of (Recalls Stands t m.lines) (core_of t m).convos desk.slots.items place latest.0 slots latest.2 in
+      let here : IsSlotOf (Recalls Stands t m.lines) None latest.0 slot = subst (IsSlotOf (Recalls Stands t m.lines) None latest.0) (some_same (sym there.1 ∙ got)) there.2 in
+      let talk = keeps_some (Recalls Stands t m.lines) latest.0 slot.talk here.talk in
       record {
         id = latest.0.id;
-        line = by (beside (latest.0.convo) talk.1) talk.0 latest.0.id talk.2 talk.3 here.clock ∙ ap (packet_line t p) (sym latest.1);
+        line = by (beside latest.0.convo (beside_of t m.lines latest.0.id)) talk.0 latest.0.id talk.1 talk.2 here.clock ∙ ap (packet_line t p) (sym latest.1);
         there = there_at (core_of t m) latest.0.id place v (latest.0.convo, latest.2);
       }
     where

@@ -15,7 +15,7 @@ use Rattle.convo.specs.Talk.Phase.{Still}
 use Rattle.coretable.specs.Course.{answer_line, begun}
 use Rattle.coretable.specs.Lawfully.{IsSound}
 use Rattle.coretable.specs.Orderly.{waiting_of}
-use Rattle.coretable.specs.Standing.{beside, entry_in, ids_of, AreUnanswered, IsSlotOf, AreSlots, Keeps, hole_of, unanswered_with, with_under, job_of}
+use Rattle.coretable.specs.Standing.{beside, beside_of, Recalls, entry_in, ids_of, AreUnanswered, IsSlotOf, AreSlots, Keeps, hole_of, unanswered_with, with_under, job_of}
 use Rattle.coretable.specs.Turns.{AtAnswer}
 use Rattle.coretable.specs.declared.desk.Desk.{Desk}
 use Rattle.coretable.specs.declared.slot.Slot.{Slot}
@@ -53,7 +53,6 @@ module _ {C D : Type 0} (paid : C → Charge) (Stands : D → Talk → Phase →
       → AtAnswer paid Stands t (begun m (answer_line (core_of t m) told.conv advice frees)) d2 a q.of advice kept
   at_back t last handler m told d0 d1 d2 a q number clock x advice frees kept s under k next given returned q0 e1 tk sl e2 e_place e_number e_clock e_entry e_talk = record {
     u = record { line = line; emitted = 0 };
-    owed = h.owed;
     number = suc core.answered;
     frees = frees;
     event = told.event;
@@ -61,7 +60,7 @@ module _ {C D : Type 0} (paid : C → Charge) (Stands : D → Talk → Phase →
     active = h.active;
     none = refl;
     line = refl;
-    talk = subst (λ v. Stands a.talk (beside v h.owed) Still) (sym h.found) (subst (λ y. Stands y (beside c h.owed) Still) (sym e_talk) h.talk);
+    talk = subst (λ v. Stands a.talk (beside v (beside_of t m.lines told.conv)) Still) (sym h.found) (subst (λ y. Stands y (beside c (beside_of t m.lines told.conv)) Still) (sym e_talk) h.talk);
     answers = record { next = ap (λ (v : Convo). slice_get v.events v.answered) (h.found ∙ same) ∙ own.1.event; of_it = waits.1; given = given; returned = returned };
   }
     where
@@ -98,11 +97,11 @@ module _ {C D : Type 0} (paid : C → Charge) (Stands : D → Talk → Phase →
       slots1 : d1.slots.items ≡ d0.slots.items
       slots1 = λ i. (e1 i).slots.items
 
-      slots : AreSlots Stands None core.convos d0.slots.items
-      slots = subst (λ l. AreSlots Stands None l d0.slots.items) (ap (with_under t core) under) (subst (λ h. AreSlots Stands h (present t m) d0.slots.items) (ap hole_of under) k.slots)
+      slots : AreSlots (Recalls Stands t m.lines) None core.convos d0.slots.items
+      slots = subst (λ l. AreSlots (Recalls Stands t m.lines) None l d0.slots.items) (ap (with_under t core) under) (subst (λ h. AreSlots (Recalls Stands t m.lines) h (present t m) d0.slots.items) (ap hole_of under) k.slots)
 
-      here : (z : Slot D) × (slice_get d0.slots.items q.place ≡ Some z) × IsSlotOf Stands None o z
-      here = slot_of Stands core.convos d0.slots.items q.place o slots there.1
+      here : (z : Slot D) × (slice_get d0.slots.items q.place ≡ Some z) × IsSlotOf (Recalls Stands t m.lines) None o z
+      here = slot_of (Recalls Stands t m.lines) core.convos d0.slots.items q.place o slots there.1
 
       got : slice_get d1.slots.items q.place ≡ Some here.0
       got = ap (λ l. slice_get l q.place) slots1 ∙ here.1

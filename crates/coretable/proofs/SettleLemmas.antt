@@ -33,7 +33,7 @@ use Rattle.coretable.specs.declared.active.Active.{Active}
 use Rattle.coretable.specs.declared.desk.Desk.{Desk}
 use Rattle.coretable.specs.declared.stage.Stage.TheVariants as S
 use Rattle.coretable.specs.declared.turn.Turn.TheVariants as T
-use Rattle.coretable.specs.Standing.{Beside, beside, AreDue, kind_of, present, with_under, unanswered_with, ids_of, AreSlots, IsIndexed, AreUnanswered, IsOwedAt, AreEnded, job_of, place_of, hole_of, Keeps, IsActive, Works}
+use Rattle.coretable.specs.Standing.{Recalls, talk_before, AreDue, kind_of, present, with_under, unanswered_with, ids_of, AreSlots, IsIndexed, AreUnanswered, IsOwedAt, AreEnded, job_of, place_of, hole_of, Keeps, IsActive, Works}
 use Rattle.coretable.specs.Turns.{IsFresh, IsAt, Settles}
 
 -- A step of a course with an entry under way.
@@ -125,8 +125,8 @@ module _ {D : Type 0} (Stands : D → Talk → Phase → Type 0) where
       → IsOf of made → new.unanswered.items ≡ old.unanswered.items ++ record { place = a.place; of = of } ∷ [] → new ≡ record old { unanswered = new.unanswered }
       → Keeps Stands t (emitted m u) new
   kept_emitted t m u a old new of made k act w kind q e = record {
-    slots = subst (λ l. AreSlots Stands (Some u.line.conv) l new.slots.items) is
-        (subst (λ h. AreSlots Stands h (present t m) new.slots.items) (ap hole_of act.under) (subst (AreSlots Stands (hole_of m.under) (present t m)) (sym (λ i. (e i).slots.items)) k.slots));
+    slots = subst (λ l. AreSlots (Recalls Stands t m.lines) (Some u.line.conv) l new.slots.items) is
+        (subst (λ h. AreSlots (Recalls Stands t m.lines) h (present t m) new.slots.items) (ap hole_of act.under) (subst (AreSlots (Recalls Stands t m.lines) (hole_of m.under) (present t m)) (sym (λ i. (e i).slots.items)) k.slots));
     index = λ key. subst (λ l. IsIndexed l (place_of new key) (latest_of key l)) is (subst (λ d. IsIndexed (present t m) (place_of d key) (latest_of key (present t m))) (sym e) (k.index key));
     dues = subst (λ l. AreDue t (Some u.line.conv) l new.dues) is (subst (λ h. AreDue t h (present t m) new.dues) (ap hole_of act.under) (subst (λ (d : Desk D). AreDue t (hole_of m.under) (present t m) d.dues) (sym e) k.dues));
     queue = subst (λ l. AreUnanswered (ids_of (with_under t (core_of t m) (Some u))) l (unanswered_with t (core_of t m) (emitted m u).under)) (sym q)
@@ -147,41 +147,41 @@ module _ {D : Type 0} (Stands : D → Talk → Phase → Type 0) where
       is = ap (with_under t (core_of t m)) act.under
 
   -- What a want makes of the table.
-  works_on : {C : Type 0} (paid : C → Charge) (t : Terms) (m : Course) (u : Under) (a : Active D) (owed : Beside) → IsActive t m u a
-      → Stands a.talk (beside (found_by (core_of t m) u.line) owed) (UnderWay u.line.act u.emitted) → Works Stands t m u a
-  works_on paid t m u a owed act st = record { active = act; owed = owed; talk = st }
+  works_on : {C : Type 0} (paid : C → Charge) (t : Terms) (m : Course) (u : Under) (a : Active D) → IsActive t m u a
+      → Stands a.talk (talk_before t m u) (UnderWay u.line.act u.emitted) → Works Stands t m u a
+  works_on paid t m u a act st = record { active = act; talk = st }
 
   pub rests : {C : Type 0} (paid : C → Charge) (t : Terms) (m : Course) (u : Under) (desk : Desk D) → m.under ≡ Some u → want_of t m u ≡ RestWanted → Keeps Stands t (completed m u) desk
       → Settles paid Stands t m desk S.Rests None
   rests paid t m u desk e w k = (completed m u, step_under t m u RestWanted e w, (refl, k))
 
-  pub asks : {C : Type 0} (paid : C → Charge) (t : Terms) (m : Course) (u : Under) (a : Active D) (desk : Desk D) (owed : Beside) (bytes mark : ℕ) → Keeps Stands t m desk → IsActive t m u a → IsFresh t m u
-      → IsWantOf paid (λ k g. Stands a.talk k g) t (beside (found_by (core_of t m) u.line) owed) u.line.act u.emitted (Ask bytes mark)
+  pub asks : {C : Type 0} (paid : C → Charge) (t : Terms) (m : Course) (u : Under) (a : Active D) (desk : Desk D) (bytes mark : ℕ) → Keeps Stands t m desk → IsActive t m u a → IsFresh t m u
+      → IsWantOf paid (λ k g. Stands a.talk k g) t (talk_before t m u) u.line.act u.emitted (Ask bytes mark)
       → Settles paid Stands t m desk (S.Asked a bytes mark) (Some (T.Ask bytes mark))
-  asks paid t m u a desk owed bytes mark k act f turn =
+  asks paid t m u a desk bytes mark k act f turn =
       let r = of_ask paid (found_by (core_of t m) u.line).first (want_of t m u) bytes mark turn.0 in (
         Wants (Reserve r.request mark),
         step_under t m u (Reserve r.request mark) act.under r.is,
         (r.bytes, refl),
-        (r.request, r.bytes, record { u = u; keeps = k; works = works_on paid t m u a owed act turn.1; fresh = f; wants = r.is }),
+        (r.request, r.bytes, record { u = u; keeps = k; works = works_on paid t m u a act turn.1; fresh = f; wants = r.is }),
       )
 
-  pub frees : {C : Type 0} (paid : C → Charge) (t : Terms) (m : Course) (u : Under) (a : Active D) (desk : Desk D) (owed : Beside) (c : C) (bytes stamp : ℕ) → bytes ≡ (paid c).bytes → Keeps Stands t m desk → IsActive t m u a → IsFresh t m u
-      → IsWantOf paid (λ k g. Stands a.talk k g) t (beside (found_by (core_of t m) u.line) owed) u.line.act u.emitted (Free c)
+  pub frees : {C : Type 0} (paid : C → Charge) (t : Terms) (m : Course) (u : Under) (a : Active D) (desk : Desk D) (c : C) (bytes stamp : ℕ) → bytes ≡ (paid c).bytes → Keeps Stands t m desk → IsActive t m u a → IsFresh t m u
+      → IsWantOf paid (λ k g. Stands a.talk k g) t (talk_before t m u) u.line.act u.emitted (Free c)
       → Settles paid Stands t m desk (S.Freeing a bytes stamp) (Some (T.Free c))
-  frees paid t m u a desk owed c bytes stamp e k act f turn =
+  frees paid t m u a desk c bytes stamp e k act f turn =
       let w = of_free paid (found_by (core_of t m) u.line).first (want_of t m u) c turn.0 in (
         Wants (Release (paid c)),
         step_under t m u (Release (paid c)) act.under w,
         refl,
-        (paid c, sym e, record { u = u; keeps = k; works = works_on paid t m u a owed act turn.1; fresh = f; wants = w }),
+        (paid c, sym e, record { u = u; keeps = k; works = works_on paid t m u a act turn.1; fresh = f; wants = w }),
       )
 
-  pub emits : {C : Type 0} (paid : C → Charge) (t : Terms) (m : Course) (u : Under) (a : Active D) (old new : Desk D) (owed : Beside) (event : Event C) → Keeps Stands t m old → IsActive t m u a → IsFresh t m u
-      → IsWantOf paid (λ k g. Stands a.talk k g) t (beside (found_by (core_of t m) u.line) owed) u.line.act u.emitted (Emit event)
+  pub emits : {C : Type 0} (paid : C → Charge) (t : Terms) (m : Course) (u : Under) (a : Active D) (old new : Desk D) (event : Event C) → Keeps Stands t m old → IsActive t m u a → IsFresh t m u
+      → IsWantOf paid (λ k g. Stands a.talk k g) t (talk_before t m u) u.line.act u.emitted (Emit event)
       → new.unanswered.items ≡ old.unanswered.items ++ record { place = a.place; of = kind_of event } ∷ [] → new ≡ record old { unanswered = new.unanswered }
       → Settles paid Stands t m new (S.Emitted a) (Some (T.Emit event))
-  emits paid t m u a old new owed event k act f turn q e =
+  emits paid t m u a old new event k act f turn q e =
       let w = of_event paid (found_by (core_of t m) u.line).first (want_of t m u) event turn.0 in (
         Wants (EmitWanted w.made),
         step_under t m u (EmitWanted w.made) act.under w.is,
@@ -192,7 +192,7 @@ module _ {D : Type 0} (Stands : D → Talk → Phase → Type 0) where
               u = u;
               event = w.made;
               keeps = kept_emitted t m u a old new (kind_of event) w.made k act w.is (kind_fits paid (found_by (core_of t m) u.line).first w.made event w.fits) q e;
-              works = works_on paid t m u a owed act turn.1;
+              works = works_on paid t m u a act turn.1;
               fresh = f;
               wants = w.is;
               is = refl;

@@ -9,10 +9,8 @@ use Rattle.streamdefs.specs.Core.{Open, find_convo, put_convo, latest_of}
 use Rattle.coretable.specs.Orderly.{Rises}
 use Rattle.coretable.proofs.Places.{from_test, rises_above, NoneHas, same_number}
 use Rattle.coretable.proofs.Answers.{swapped, latest_put}
-use Rattle.convo.specs.Talk.{Talk, Phase}
-use Rattle.convo.specs.Talk.Phase.{Still}
 use Rattle.coretable.specs.declared.slot.Slot.{Slot}
-use Rattle.coretable.specs.Standing.{Beside, beside, KeepsTalk, IsSlotOf, AreSlots, IsDueIn, AreDue, IsIndexed, ids_of, AreEnded}
+use Rattle.coretable.specs.Standing.{KeepsTalk, IsSlotOf, AreSlots, IsDueIn, AreDue, IsIndexed, ids_of, AreEnded}
 use Rattle.coretable.specs.Moments.{moment_of}
 use Rattle.convo.specs.Talk.{due_of}
 use Rattle.deadlines.specs.Dues.{Dues}
@@ -187,49 +185,57 @@ dues_end t id os o index i h k =
     (λ q e hole. subst (IsDueIn t None index k) e (h k) refl)
 
 -- The slots.
-module _ {T : Type 0} (Stands : T → Talk → Phase → Type 0) where
-  not_hole : (id : ℕ) (o : Open) (s : Slot T) → (id == o.id) ≡ false → IsSlotOf Stands (Some id) o s → IsSlotOf Stands None o s
-  not_hole id o s n h = record { number = h.number; key = h.key; clock = h.clock; talk = subst (λ b. KeepsTalk Stands b o.convo s.talk) n h.talk }
+module _ {T : Type 0} (Is Was : Open → T → Type 0) where
+  -- what is kept of another conversation stays right
+  abbrev pub StaysBeside : ℕ → Type 0
+  StaysBeside id = (o : Open) (x : T) → (id == o.id) ≡ false → Was o x → Is o x
 
-  pub filled : (id : ℕ) (os : List Open) (ss : List (Slot T)) → NoneHas id os → AreSlots Stands (Some id) os ss → AreSlots Stands None os ss
-  filled id [] [] n h = tt
-  filled id [] (s ∷ ss) n h = absurd h
-  filled id (o ∷ os) [] n h = absurd h
-  filled id (o ∷ os) (s ∷ ss) n h = (not_hole id o s (turned id o.id n.0) h.0, filled id os ss n.1 h.1)
+  kept_one : (id : ℕ) (o : Open) (talk : Option T) → (id == o.id) ≡ false → StaysBeside id → KeepsTalk Was false o talk → KeepsTalk Is false o talk
+  kept_one id o None n stays h = h
+  kept_one id o (Some x) n stays h = stays o x n h
+
+  not_hole : (id : ℕ) (o : Open) (s : Slot T) → (id == o.id) ≡ false → StaysBeside id → IsSlotOf Was (Some id) o s → IsSlotOf Is None o s
+  not_hole id o s n stays h = record { number = h.number; key = h.key; clock = h.clock; talk = kept_one id o s.talk n stays (subst (λ b. KeepsTalk Was b o s.talk) n h.talk) }
+
+  filled : (id : ℕ) (os : List Open) (ss : List (Slot T)) → NoneHas id os → StaysBeside id → AreSlots Was (Some id) os ss → AreSlots Is None os ss
+  filled id [] [] n stays h = tt
+  filled id [] (s ∷ ss) n stays h = absurd h
+  filled id (o ∷ os) [] n stays h = absurd h
+  filled id (o ∷ os) (s ∷ ss) n stays h = (not_hole id o s (turned id o.id n.0) stays h.0, filled id os ss n.1 stays h.1)
     where
       turned : (a b : ℕ) → (b == a) ≡ false → (a == b) ≡ false
       turned a b e = grind (arith, nat_tests)
 
   -- what is kept of a conversation is put back
-  pub slots_put : (from id place clock : ℕ) (c : Convo) (talk : T) (owed : Beside) (os : List Open) (o : Open) (ss : List (Slot T)) (s : Slot T) → Rises from os → AreSlots Stands (Some id) os ss
-      → slice_get os place ≡ Some o → o.id ≡ id → slice_get ss place ≡ Some s → c.first ≡ o.convo.first → clock ≡ c.clock → Stands talk (beside c owed) Still
-      → AreSlots Stands None (put_convo id c os) (slice_set ss place (record s { clock = clock; talk = Some talk }))
-  slots_put from id place clock c talk owed [] o ss s r h g i gs f k st = absurd (none place g)
+  pub slots_put : (from id place clock : ℕ) (c : Convo) (talk : T) (os : List Open) (o : Open) (ss : List (Slot T)) (s : Slot T) → Rises from os → StaysBeside id → AreSlots Was (Some id) os ss
+      → slice_get os place ≡ Some o → o.id ≡ id → slice_get ss place ≡ Some s → c.first ≡ o.convo.first → clock ≡ c.clock → Is (record { id = id; convo = c }) talk
+      → AreSlots Is None (put_convo id c os) (slice_set ss place (record s { clock = clock; talk = Some talk }))
+  slots_put from id place clock c talk [] o ss s r stays h g i gs f k st = absurd (none place g)
     where
       none : (n : ℕ) → slice_get [] n ≡ Some o → ⊥
       none zero e = cc
       none (suc n) e = cc
-  slots_put from id place clock c talk owed (x ∷ os) o [] s r h g i gs f k st = absurd h
-  slots_put from id zero clock c talk owed (x ∷ os) o (y ∷ ss) s r h g i gs f k st =
+  slots_put from id place clock c talk (x ∷ os) o [] s r stays h g i gs f k st = absurd h
+  slots_put from id zero clock c talk (x ∷ os) o (y ∷ ss) s r stays h g i gs f k st =
       let same_o : x ≡ o = cc in
       let same_s : y ≡ s = cc in
       let same_id : x.id ≡ id = ap (λ (z : Open). z.id) same_o ∙ i in
-      subst (λ b. AreSlots Stands None (cond b (record { id = id; convo = c } ∷ os) (x ∷ put_convo id c os)) (record s { clock = clock; talk = Some talk } ∷ ss))
+      subst (λ b. AreSlots Is None (cond b (record { id = id; convo = c } ∷ os) (x ∷ put_convo id c os)) (record s { clock = clock; talk = Some talk } ∷ ss))
       (sym (ap (λ (n : ℕ). n == id) same_id ∙ same_number id)) (
         record {
           number = sym (ap (λ (z : Slot T). z.number) same_s) ∙ h.0.number ∙ same_id;
           key = sym (ap (λ (z : Slot T). z.key) same_s) ∙ h.0.key ∙ (λ i. (same_o i).convo.first.key) ∙ sym (ap (λ (p : Packet). p.key) f);
           clock = k;
-          talk = (owed, st);
+          talk = st;
         },
-        filled id os ss (subst (λ n. NoneHas n os) same_id (rises_above x.id (suc x.id) os (omega arith) r.2)) h.1,
+        filled id os ss (subst (λ n. NoneHas n os) same_id (rises_above x.id (suc x.id) os (omega arith) r.2)) stays h.1,
       )
-  slots_put from id (suc place) clock c talk owed (x ∷ os) o (y ∷ ss) s r h g i gs f k st =
+  slots_put from id (suc place) clock c talk (x ∷ os) o (y ∷ ss) s r stays h g i gs f k st =
       let above : x.id < o.id = later from x os place o r g in
       let other : (x.id == id) ≡ false = differ x.id id (omega (arith, above, i)) in
-      subst (λ b. AreSlots Stands None (cond b (record { id = id; convo = c } ∷ os) (x ∷ put_convo id c os)) (y ∷ slice_set ss place (record s { clock = clock; talk = Some talk })))
+      subst (λ b. AreSlots Is None (cond b (record { id = id; convo = c } ∷ os) (x ∷ put_convo id c os)) (y ∷ slice_set ss place (record s { clock = clock; talk = Some talk })))
       (sym other)
-      (not_hole id x y (differ_turned x.id id (omega (arith, above, i))) h.0, slots_put (suc x.id) id place clock c talk owed os o ss s r.2 h.1 g i gs f k st)
+      (not_hole id x y (differ_turned x.id id (omega (arith, above, i))) stays h.0, slots_put (suc x.id) id place clock c talk os o ss s r.2 stays h.1 g i gs f k st)
     where
       differ : (a b : ℕ) → a < b → (a == b) ≡ false
       differ a b l = grind (arith, nat_tests)

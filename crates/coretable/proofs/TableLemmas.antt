@@ -34,7 +34,7 @@ use Rattle.coretable.specs.Course.Step.{Goes, Stops}
 use Rattle.coretable.specs.Course.Stop.{Fills, Finishes, Rests}
 use Rattle.coretable.specs.Held.{StandsFor, weight_of_some}
 use Rattle.coretable.specs.Lawfully.{IsSound}
-use Rattle.coretable.specs.Standing.{AreSlots, AreUnanswered, IsDueIn, IsIndexed, IsOwedAt, Keeps, job_of, place_of}
+use Rattle.coretable.specs.Standing.{Recalls, AreSlots, AreUnanswered, IsDueIn, IsIndexed, IsOwedAt, Keeps, job_of, place_of}
 use Rattle.coretable.specs.Table.{IsAtState, IsAwaited, IsReleasedAt, KeepsNothing, changed, is_empty, look_of, pause_by, told_course, under_way}
 use Rattle.coretable.specs.Turns.{AtEvent, AtFree, AtLook, AtWant}
 use Rattle.coretable.specs.Weighed.{weight_of_desk, weight_of_hand, weight_of_slots, weight_of_talk}
@@ -77,7 +77,7 @@ none_due t desk place n = ap (λ dues. moment_in dues place) n.dues ∙ get-empt
 
 pub nothing_kept : {C : Type 0} (paid : C → Charge) (t : Terms) (desk : Desk (Convo C)) → KeepsNothing desk → Keeps (StandsFor paid t) t no_course desk
 nothing_kept paid t desk n = record {
-  slots = subst (AreSlots (StandsFor paid t) None []) (sym n.slots) tt;
+  slots = subst (AreSlots (Recalls (StandsFor paid t) t []) None []) (sym n.slots) tt;
   index = λ key. subst (λ place. IsIndexed [] place None) (sym (not_in desk key n.index)) tt;
   dues = λ place. subst (IsDueIn t None desk.dues place) (sym (no_slice place)) (none_due t desk place n);
   queue = subst (λ waits. AreUnanswered [] waits []) (sym n.unanswered) tt;

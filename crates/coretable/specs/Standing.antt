@@ -16,11 +16,12 @@ use Rattle.streamkey.specs.contracts.key.KeyPartialEq.TheImpl as key_eq
 use Rattle.streamdefs.specs.Terms.{Terms}
 use Rattle.streamdefs.specs.Convo.{Act, Convo, after, events_in, is_live}
 use Rattle.streamdefs.specs.Convo.Act.{Seg, Answer, Time, End}
-use Rattle.streamdefs.specs.Core.{Line, Core, Open, Told, Owed, found_by, put_convo, latest_of, is_answer}
+use Rattle.streamdefs.specs.Packet.{Packet, no_packet}
+use Rattle.streamdefs.specs.Core.{Line, Core, Open, Told, Owed, history, found_by, put_convo, latest_of, is_answer}
 use Rattle.coretable.specs.Course.{Course, Job, Under, core_of}
 use Rattle.coretable.specs.Course.Job.{Nothing, Takes, Closes}
 use Rattle.coretable.specs.Orderly.{waiting_of}
-use Rattle.convo.specs.Talk.{Talk, Phase, Sums, IsOf, due_of, no_sums, talk_after}
+use Rattle.convo.specs.Talk.{Talk, Phase, Sums, IsOf, due_of, no_sums, new_talk, talk_at}
 use Rattle.convo.specs.Talk.Phase.{Still, Under as UnderWay}
 use Rattle.convo.specs.Seen.{packet_of}
 use Rattle.evring.specs.declared.event.Event.{Event as Event_}
@@ -85,32 +86,55 @@ beside c b = record { convo = c; owed = b.owed; sums = b.sums }
 abbrev pub nothing_beside : Beside
 nothing_beside = record { owed = None; sums = both no_sums }
 
--- behind an entry
-abbrev pub beside_after : Terms → Convo → Beside → Act → Beside
-beside_after t c b act = record { owed = (talk_after t (beside c b) act).owed; sums = (talk_after t (beside c b) act).sums }
+-- the packet with which an entry opens a conversation
+abbrev pub opened_by : Act → Packet
+opened_by (Seg p now looks frees) = p
+opened_by _ = no_packet
+
+-- what a history makes of a conversation, from its first packet on
+abbrev pub talk_by : Terms → List Act → Talk
+talk_by t [] = new_talk no_packet
+talk_by t (act ∷ acts) = talk_at t (new_talk (opened_by act)) (act ∷ acts)
+
+-- the talk of a conversation after the lines of the book under its number
+abbrev pub talk_of : Terms → List Line → ℕ → Talk
+talk_of t lines id = talk_by t (history id lines)
+
+-- what these lines give beside the conversation
+abbrev pub beside_of : Terms → List Line → ℕ → Beside
+beside_of t lines id = record { owed = (talk_of t lines id).owed; sums = (talk_of t lines id).sums }
+
+-- What is kept of a conversation recalls its history: it stands for what the core has of it, with the End and the sums that
+-- its lines in the book give.
+abbrev pub Recalls : {T : Type 0} → (T → Talk → Phase → Type 0) → Terms → List Line → Open → T → Type 0
+Recalls Stands t lines o x = Stands x (beside o.convo (beside_of t lines o.id)) Still
+
+-- the talk before the entry under way
+abbrev pub talk_before : Terms → Course → Under → Talk
+talk_before t m u = beside (found_by (core_of t m) u.line) (beside_of t m.lines u.line.conv)
 
 -- A slot stands for a conversation; where its entry is under way, what is kept of it is elsewhere.
 abbrev pub IsHole : Option ℕ → ℕ → Bool
 IsHole None id = false
 IsHole (Some n) id = n == id
 
-abbrev pub KeepsTalk : {T : Type 0} → (T → Talk → Phase → Type 0) → Bool → Convo → Option T → Type 0
-KeepsTalk Stands true c talk = talk ≡ None
-KeepsTalk Stands false c None = ⊥
-KeepsTalk Stands false c (Some x) = (owed : Beside) × Stands x (beside c owed) Still
+abbrev pub KeepsTalk : {T : Type 0} → (Open → T → Type 0) → Bool → Open → Option T → Type 0
+KeepsTalk Is true o talk = talk ≡ None
+KeepsTalk Is false o None = ⊥
+KeepsTalk Is false o (Some x) = Is o x
 
-pub record IsSlotOf {T : Type 0} (Stands : T → Talk → Phase → Type 0) (hole : Option ℕ) (o : Open) (s : Slot T) : Type 0 where
+pub record IsSlotOf {T : Type 0} (Is : Open → T → Type 0) (hole : Option ℕ) (o : Open) (s : Slot T) : Type 0 where
   pub number : s.number ≡ o.id
   pub key : s.key ≡ o.convo.first.key
   pub clock : s.clock ≡ o.convo.clock
-  pub talk : KeepsTalk Stands (IsHole hole o.id) o.convo s.talk
+  pub talk : KeepsTalk Is (IsHole hole o.id) o s.talk
 
 -- all of them, in order
-abbrev pub AreSlots : {T : Type 0} → (T → Talk → Phase → Type 0) → Option ℕ → List Open → List (Slot T) → Type 0
-AreSlots Stands hole [] [] = ⊤
-AreSlots Stands hole [] (s ∷ ss) = ⊥
-AreSlots Stands hole (o ∷ os) [] = ⊥
-AreSlots Stands hole (o ∷ os) (s ∷ ss) = IsSlotOf Stands hole o s × AreSlots Stands hole os ss
+abbrev pub AreSlots : {T : Type 0} → (Open → T → Type 0) → Option ℕ → List Open → List (Slot T) → Type 0
+AreSlots Is hole [] [] = ⊤
+AreSlots Is hole [] (s ∷ ss) = ⊥
+AreSlots Is hole (o ∷ os) [] = ⊥
+AreSlots Is hole (o ∷ os) (s ∷ ss) = IsSlotOf Is hole o s × AreSlots Is hole os ss
 
 -- the moment at which each falls due is known by its place, but for the one that is elsewhere
 abbrev pub IsDueIn : Terms → Option ℕ → Dues → ℕ → Option Open → Type 0
@@ -176,7 +200,7 @@ place_of desk key = get key_eq.eq-value.it desk.index key
 
 -- What a table keeps beside the entry under way stands for a core's course.
 pub record Keeps {T : Type 0} (Stands : T → Talk → Phase → Type 0) (t : Terms) (m : Course) (desk : Desk T) : Type 0 where
-  pub slots : AreSlots Stands (hole_of m.under) (present t m) desk.slots.items
+  pub slots : AreSlots (Recalls Stands t m.lines) (hole_of m.under) (present t m) desk.slots.items
   pub index : (key : Key) → IsIndexed (present t m) (place_of desk key) (latest_of key (present t m))
   pub dues : AreDue t (hole_of m.under) (present t m) desk.dues
   pub queue : AreUnanswered (ids_of (present t m)) desk.unanswered.items (unanswered_with t (core_of t m) m.under)
@@ -199,11 +223,10 @@ pub record IsActive {T : Type 0} (t : Terms) (m : Course) (u : Under) (a : Activ
   pub entry : entry_for a.kind a.looks.items a.frees.items ≡ entry_in u.line.act
   pub clock : a.clock ≡ (after t (found_by (core_of t m) u.line) u.line.act).clock
 
--- its conversation stands for what the core has of it, and for so much of the entry
+-- its conversation stands for what it was before the entry, and for so much of the entry
 pub record Works {T : Type 0} (Stands : T → Talk → Phase → Type 0) (t : Terms) (m : Course) (u : Under) (a : Active T) : Type 0 where
   pub active : IsActive t m u a
-  pub owed : Beside
-  pub talk : Stands a.talk (beside (found_by (core_of t m) u.line) owed) (UnderWay u.line.act u.emitted)
+  pub talk : Stands a.talk (talk_before t m u) (UnderWay u.line.act u.emitted)
 
 -- which event it is
 abbrev pub kind_of : {C : Type 0} → Event_ C → AnsweredEvent

@@ -29,7 +29,7 @@ use Rattle.coretable.specs.declared.stage.Stage.{Stage}
 use Rattle.coretable.specs.declared.stage.Stage.TheVariants as S
 use Rattle.coretable.specs.declared.turn.Turn.{Turn}
 use Rattle.coretable.specs.declared.turn.Turn.TheVariants as T
-use Rattle.coretable.specs.Standing.{Beside, beside, Keeps, IsActive, Works}
+use Rattle.coretable.specs.Standing.{talk_before, Keeps, IsActive, Works}
 
 -- no event is handed over before all is asked and given back
 abbrev pub IsFresh : Terms → Course → Under → Type 0
@@ -71,7 +71,6 @@ pub record AtEvent {D : Type 0} (Stands : D → Talk → Phase → Type 0) (t : 
 -- an answer that is to go to its conversation, whose entry is under way
 pub record AtAnswer {C D : Type 0} (paid : C → Charge) (Stands : D → Talk → Phase → Type 0) (t : Terms) (m : Course) (desk : Desk D) (a : Active D) (of : AnsweredEvent) (advice : Advice) (kept : List (ChunkParts C)) : Type 0 where
   pub u : Under
-  pub owed : Beside
   pub number : ℕ
   pub frees : List Free
   pub event : EventMade
@@ -79,7 +78,7 @@ pub record AtAnswer {C D : Type 0} (paid : C → Charge) (Stands : D → Talk �
   pub active : IsActive t m u a
   pub none : u.emitted ≡ 0
   pub line : u.line.act ≡ Answer number advice frees
-  pub talk : Stands a.talk (beside (found_by (core_of t m) u.line) owed) Still
+  pub talk : Stands a.talk (talk_before t m u) Still
   pub answers : IsAnswerTo paid (found_by (core_of t m) u.line) of advice frees kept event
 
 -- How far it is.

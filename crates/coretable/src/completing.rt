@@ -4,8 +4,7 @@ ghost use Rattle.std.specs.FinMap.{get as moment_in};
 ghost use Rattle.streamdefs.specs.Terms.{Terms};
 ghost use Rattle.streamdefs.specs.Lawful.{Handler};
 ghost use Rattle.streamdefs.specs.Want.Want.{Rest};
-ghost use Rattle.streamdefs.specs.Core.{found_by};
-ghost use Rattle.coretable.specs.Course.{Course, Under, completed, core_of, want_of};
+ghost use Rattle.coretable.specs.Course.{Course, Under, completed, want_of};
 ghost use Rattle.coretable.specs.Lawfully.{IsSound};
 ghost use Rattle.coretable.specs.Moments.{moment_of};
 ghost use Rattle.flowdir.specs.Boundary.{charge_by};
@@ -14,7 +13,7 @@ ghost use Rattle.convo.specs.Talk.{SetsUp, talk_after};
 ghost use Rattle.convo.specs.Talk.Phase.{Still};
 ghost use Rattle.coretable.specs.Steps.{IsMoved, size_if_err};
 ghost use Rattle.coretable.specs.Weighed.{size_of_slots, weight_of_active, weight_of_hand};
-ghost use Rattle.coretable.specs.Standing.{Beside, beside, entry_for, owed_place, answered_by, owed_by_kind, Keeps, IsActive};
+ghost use Rattle.coretable.specs.Standing.{talk_before, entry_for, owed_place, answered_by, owed_by_kind, Keeps, IsActive};
 
 use crate::{Active, Desk, EntryKind, Hand, Held, Memory, Owed, Slot};
 use convo::ConvoSet;
@@ -136,9 +135,9 @@ pub(crate) fn complete<C: Charge>(
     desk: &mut Desk<Held<C>>,
     active: Active<Held<C>>,
 ) -> Result<(), Hand<C>>
-    ensures turn { (t : Terms) (last : ℕ) (handler : Handler) (m : Course) (u : Under) (owed : Beside) → SetsUp set.now t → IsSound t last handler m
+    ensures turn { (t : Terms) (last : ℕ) (handler : Handler) (m : Course) (u : Under) → SetsUp set.now t → IsSound t last handler m
         → Keeps (StandsFor (charge_by C.amount C.stamp) t) t m desk.old → IsActive t m u active → want_of t m u ≡ Rest
-        → StandsFor (charge_by C.amount C.stamp) t active.talk (talk_after t (beside (found_by (core_of t m) u.line) owed) u.line.act) Still
+        → StandsFor (charge_by C.amount C.stamp) t active.talk (talk_after t (talk_before t m u) u.line.act) Still
         → OnOk result (Keeps (StandsFor (charge_by C.amount C.stamp) t) t (completed m u) desk.new) }
     ensures step { IsMoved desk.old desk.new (λ w. weight_of_active w active) (λ w. size_if_err (weight_of_hand w) result) }
 {

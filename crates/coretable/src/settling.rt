@@ -2,14 +2,13 @@
 ghost use Rattle.std.specs.Prelude.{◌≡◌, ◌≤◌, ◌+◌, ◌++◌, [], ◌∷◌, ℕ, Ok, OnOk, OnErr, IfOk};
 ghost use Rattle.streamdefs.specs.Terms.{Terms};
 ghost use Rattle.streamdefs.specs.Lawful.{Handler};
-ghost use Rattle.streamdefs.specs.Core.{found_by};
-ghost use Rattle.coretable.specs.Course.{Course, Under, core_of};
+ghost use Rattle.coretable.specs.Course.{Course, Under};
 ghost use Rattle.coretable.specs.Lawfully.{IsSound};
 ghost use Rattle.flowdir.specs.Boundary.{charge_by};
 ghost use Rattle.coretable.specs.Held.{StandsFor};
 ghost use Rattle.convo.specs.Talk.{IsWantOf, SetsUp};
 ghost use Rattle.convo.specs.declared.want.Want.TheVariants.{Ask, Free, Emit, Rest};
-ghost use Rattle.coretable.specs.Standing.{Beside, beside, kind_of, Keeps, IsActive};
+ghost use Rattle.coretable.specs.Standing.{talk_before, kind_of, Keeps, IsActive};
 ghost use Rattle.coretable.specs.Turns.{IsFresh, Settles};
 ghost use Rattle.convo.specs.Standing.{IsAskWithin};
 ghost use Rattle.convo.specs.Weights.{weight_of_event, weight_of_want};
@@ -49,9 +48,9 @@ fn settle_rest<C: Charge>(
     desk: &mut Desk<Held<C>>,
     active: Active<Held<C>>,
 ) -> Result<(Stage<C, Held<C>>, Option<Turn<C>>), Hand<C>>
-    ensures turn { (t : Terms) (last : ℕ) (handler : Handler) (m : Course) (u : Under) (owed : Beside) → SetsUp set.now t → IsSound t last handler m
+    ensures turn { (t : Terms) (last : ℕ) (handler : Handler) (m : Course) (u : Under) → SetsUp set.now t → IsSound t last handler m
         → Keeps (StandsFor (charge_by C.amount C.stamp) t) t m desk.old → IsActive t m u active → IsFresh t m u
-        → IsWantOf (charge_by C.amount C.stamp) (StandsFor (charge_by C.amount C.stamp) t active.talk) t (beside (found_by (core_of t m) u.line) owed) u.line.act u.emitted Rest
+        → IsWantOf (charge_by C.amount C.stamp) (StandsFor (charge_by C.amount C.stamp) t active.talk) t (talk_before t m u) u.line.act u.emitted Rest
         → IfOk result (λ r. Settles (charge_by C.amount C.stamp) (StandsFor (charge_by C.amount C.stamp) t) t m desk.new r.0 r.1) }
     ensures step { IsStep (charge_by C.amount C.stamp) set.now.marks.limit desk.old desk.new (λ w. weight_of_active w active) result }
 {
@@ -68,9 +67,9 @@ fn settle_ask<C: Charge>(
     bytes: u32,
     mark: u32,
 ) -> (Stage<C, Held<C>>, Option<Turn<C>>)
-    ensures turn { (t : Terms) (m : Course) (u : Under) (owed : Beside)
+    ensures turn { (t : Terms) (m : Course) (u : Under)
         → Keeps (StandsFor (charge_by C.amount C.stamp) t) t m desk.entry.now → IsActive t m u active → IsFresh t m u
-        → IsWantOf (charge_by C.amount C.stamp) (StandsFor (charge_by C.amount C.stamp) t active.talk) t (beside (found_by (core_of t m) u.line) owed) u.line.act u.emitted (Ask bytes mark)
+        → IsWantOf (charge_by C.amount C.stamp) (StandsFor (charge_by C.amount C.stamp) t active.talk) t (talk_before t m u) u.line.act u.emitted (Ask bytes mark)
         → Settles (charge_by C.amount C.stamp) (StandsFor (charge_by C.amount C.stamp) t) t m desk.entry.now result.0 result.1 }
     ensures step { (limit : ℕ) → 1 ≤ bytes → mark ≤ limit → IsStep (charge_by C.amount C.stamp) limit desk.entry.now desk.entry.now (λ w. weight_of_active w active) (Ok result) }
 {
@@ -91,9 +90,9 @@ fn settle_free<C: Charge>(
     active: Active<Held<C>>,
     charge: C,
 ) -> (Stage<C, Held<C>>, Option<Turn<C>>)
-    ensures turn { (t : Terms) (m : Course) (u : Under) (owed : Beside)
+    ensures turn { (t : Terms) (m : Course) (u : Under)
         → Keeps (StandsFor (charge_by C.amount C.stamp) t) t m desk.entry.now → IsActive t m u active → IsFresh t m u
-        → IsWantOf (charge_by C.amount C.stamp) (StandsFor (charge_by C.amount C.stamp) t active.talk) t (beside (found_by (core_of t m) u.line) owed) u.line.act u.emitted (Free charge)
+        → IsWantOf (charge_by C.amount C.stamp) (StandsFor (charge_by C.amount C.stamp) t active.talk) t (talk_before t m u) u.line.act u.emitted (Free charge)
         → Settles (charge_by C.amount C.stamp) (StandsFor (charge_by C.amount C.stamp) t) t m desk.entry.now result.0 result.1 }
     ensures step { (limit : ℕ) → IsStep (charge_by C.amount C.stamp) limit desk.entry.now desk.entry.now (λ w. weight_of_active w active + w charge) (Ok result) }
 {
@@ -116,9 +115,9 @@ fn settle_event<C: Charge>(
     active: Active<Held<C>>,
     event: Event<C>,
 ) -> Result<(Stage<C, Held<C>>, Option<Turn<C>>), Hand<C>>
-    ensures turn { (t : Terms) (m : Course) (u : Under) (owed : Beside)
+    ensures turn { (t : Terms) (m : Course) (u : Under)
         → Keeps (StandsFor (charge_by C.amount C.stamp) t) t m desk.old → IsActive t m u active → IsFresh t m u
-        → IsWantOf (charge_by C.amount C.stamp) (StandsFor (charge_by C.amount C.stamp) t active.talk) t (beside (found_by (core_of t m) u.line) owed) u.line.act u.emitted (Emit event)
+        → IsWantOf (charge_by C.amount C.stamp) (StandsFor (charge_by C.amount C.stamp) t active.talk) t (talk_before t m u) u.line.act u.emitted (Emit event)
         → IfOk result (λ r. Settles (charge_by C.amount C.stamp) (StandsFor (charge_by C.amount C.stamp) t) t m desk.new r.0 r.1) }
     ensures step { (limit : ℕ) → IsStep (charge_by C.amount C.stamp) limit desk.old desk.new (λ w. weight_of_active w active + weight_of_event w event) result }
 {
@@ -136,9 +135,9 @@ pub(crate) fn settle<C: Charge>(
     active: Active<Held<C>>,
     want: Want<C>,
 ) -> Result<(Stage<C, Held<C>>, Option<Turn<C>>), Hand<C>>
-    ensures turn { (t : Terms) (last : ℕ) (handler : Handler) (m : Course) (u : Under) (owed : Beside) → SetsUp set.now t → IsSound t last handler m
+    ensures turn { (t : Terms) (last : ℕ) (handler : Handler) (m : Course) (u : Under) → SetsUp set.now t → IsSound t last handler m
         → Keeps (StandsFor (charge_by C.amount C.stamp) t) t m desk.old → IsActive t m u active → IsFresh t m u
-        → IsWantOf (charge_by C.amount C.stamp) (StandsFor (charge_by C.amount C.stamp) t active.talk) t (beside (found_by (core_of t m) u.line) owed) u.line.act u.emitted want
+        → IsWantOf (charge_by C.amount C.stamp) (StandsFor (charge_by C.amount C.stamp) t active.talk) t (talk_before t m u) u.line.act u.emitted want
         → IfOk result (λ r. Settles (charge_by C.amount C.stamp) (StandsFor (charge_by C.amount C.stamp) t) t m desk.new r.0 r.1) }
     ensures step { IsAskWithin set.now.marks.limit want → IsStep (charge_by C.amount C.stamp) set.now.marks.limit desk.old desk.new (λ w. weight_of_active w active + weight_of_want w want) result }
 {

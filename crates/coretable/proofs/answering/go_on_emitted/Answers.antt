@@ -15,7 +15,7 @@ returns-in-Ok-clause-turn g c t last handler m s set l =
     let ready = ready_emitted (charge_by g.C.Charge.amount g.C.Charge.stamp) (StandsFor (charge_by g.C.Charge.amount g.C.Charge.stamp) t) t m c.args.desk.now c.args.active c.tell_event.new.active c.in-Ok.want l
     c.tell_event.ensures.rest
     (λ owed st. c.in-Ok.ensures.turn t (beside (found_by (core_of t l.before) l.u.line) owed) l.u.line.act l.u.emitted l.event set st l.wants) in
-    c.settle.ensures.turn t last handler m ready.u ready.owed set s ready.keeps ready.active ready.fresh ready.turn
+    c.settle.ensures.turn t last handler m ready.u set s ready.keeps ready.active ready.fresh ready.turn
 
 pub returns-in-Ok-clause-step : goal.returns-in-Ok-clause-step
 returns-in-Ok-clause-step g c =

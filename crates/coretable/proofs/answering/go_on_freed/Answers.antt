@@ -19,7 +19,7 @@ returns-in-Ok-tell_free-clause-turn g c t last handler m s set l =
     c.in-Ok.ensures.frees c.put_free.ensures.rest c.tell_free.ensures.rest
     (λ owed st. c.in-Ok-tell_free.ensures.turn t (beside (found_by (core_of t l.before) l.at.u.line) owed) l.at.u.line.act l.at.u.emitted c.args.free l.charge set
     (subst (λ (a : Active (Convo g.row.C.Denot)). StandsFor (charge_by g.C.Charge.amount g.C.Charge.stamp) t a.talk (beside (found_by (core_of t l.before) l.at.u.line) owed) (UnderWay l.at.u.line.act l.at.u.emitted)) (sym c.put_free.ensures.rest) st) l.at.wants) in
-    c.settle.ensures.turn t last handler m ready.u ready.owed set s ready.keeps ready.active ready.fresh ready.turn
+    c.settle.ensures.turn t last handler m ready.u set s ready.keeps ready.active ready.fresh ready.turn
 
 pub returns-in-Ok-tell_free-clause-step : goal.returns-in-Ok-tell_free-clause-step
 returns-in-Ok-tell_free-clause-step g c =

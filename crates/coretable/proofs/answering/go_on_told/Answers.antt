@@ -19,7 +19,7 @@ returns-in-Ok-tell-clause-turn g c t last handler m s set l =
     c.in-Ok.ensures.looks c.put_look.ensures.rest c.tell.ensures.rest
     (λ owed st. c.in-Ok-tell.ensures.turn t (beside (found_by (core_of t l.before) l.at.u.line) owed) l.at.u.line.act l.at.u.emitted c.args.look l.request l.mark set
     (subst (λ (a : Active (Convo g.row.C.Denot)). StandsFor (charge_by g.C.Charge.amount g.C.Charge.stamp) t a.talk (beside (found_by (core_of t l.before) l.at.u.line) owed) (UnderWay l.at.u.line.act l.at.u.emitted)) (sym c.put_look.ensures.rest) st) l.at.wants l.answers) in
-    c.settle.ensures.turn t last handler m ready.u ready.owed set s ready.keeps ready.active ready.fresh ready.turn
+    c.settle.ensures.turn t last handler m ready.u set s ready.keeps ready.active ready.fresh ready.turn
 
 pub returns-in-Ok-tell-clause-step : goal.returns-in-Ok-tell-clause-step
 returns-in-Ok-tell-clause-step g c =

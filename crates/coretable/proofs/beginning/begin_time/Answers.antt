@@ -22,7 +22,7 @@ returns-in-Ok-time-clause-turn g c t last handler m o set s e k at s' =
     a.0 a.1 a.2 refl (λ i. entry_for (a.3 i) (a.4 i) (a.5 i))
     (λ owed st. subst (λ y. IsWantOf (charge_by g.C.Charge.amount g.C.Charge.stamp) (StandsFor (charge_by g.C.Charge.amount g.C.Charge.stamp) t y) t (beside o.convo owed) (Time c.args.at [] []) 0 c.in-Ok-time.want) (sym a.6)
     (c.in-Ok-time.ensures.turn t (beside o.convo owed) set st)) in
-    c.settle.ensures.turn t last handler (begun m (record { conv = o.id; act = Time c.args.at [] [] })) ready.u ready.owed set s' ready.keeps ready.active ready.fresh ready.turn
+    c.settle.ensures.turn t last handler (begun m (record { conv = o.id; act = Time c.args.at [] [] })) ready.u set s' ready.keeps ready.active ready.fresh ready.turn
 
 pub returns-in-Ok-time-clause-step : goal.returns-in-Ok-time-clause-step
 returns-in-Ok-time-clause-step g c =

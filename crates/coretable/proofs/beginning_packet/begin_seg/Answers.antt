@@ -27,7 +27,7 @@ returns-in-Ok-take-clause-turn g c t last handler m o p set s e k at j s' =
     (λ owed st. subst (λ q. IsWantOf (charge_by g.C.Charge.amount g.C.Charge.stamp) (StandsFor (charge_by g.C.Charge.amount g.C.Charge.stamp) t c.active_of-active.result.talk) t (beside o.convo owed) (Seg (packet_of q) q.now [] []) 0 c.in-Ok-take.want) same
     (subst (λ y. IsWantOf (charge_by g.C.Charge.amount g.C.Charge.stamp) (StandsFor (charge_by g.C.Charge.amount g.C.Charge.stamp) t y) t (beside o.convo owed) (Seg (packet_of c.in-Ok.packet) c.in-Ok.packet.now [] []) 0 c.in-Ok-take.want) (sym a.6)
     (c.in-Ok-take.ensures.turn t (beside o.convo owed) set st))) in
-    c.settle.ensures.turn t last handler (begun m (record { conv = o.id; act = Seg (packet_of p) p.now [] [] })) ready.u ready.owed set s' ready.keeps ready.active ready.fresh ready.turn
+    c.settle.ensures.turn t last handler (begun m (record { conv = o.id; act = Seg (packet_of p) p.now [] [] })) ready.u set s' ready.keeps ready.active ready.fresh ready.turn
 
 pub returns-in-Ok-take-clause-step : goal.returns-in-Ok-take-clause-step
 returns-in-Ok-take-clause-step g c =

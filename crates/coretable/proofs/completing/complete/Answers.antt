@@ -1,10 +1,8 @@
 use Rattle.flowdir.specs.Boundary.{charge_by}
 use Rattle.coretable.specs.Held.{StandsFor}
 use Rattle.std.proofs.Common.{◌∙◌, ◌+◌, ap, ◌++◌, [], ◌∷◌}
-use Rattle.streamdefs.specs.Core.{found_by}
 use Rattle.convo.specs.Talk.{talk_after}
-use Rattle.coretable.specs.Course.{core_of}
-use Rattle.coretable.specs.Standing.{beside}
+use Rattle.coretable.specs.Standing.{talk_before}
 use Rattle.coretable.proofs.CompleteLemmas.{completes}
 use Rattle.convo.specs.Standing.{weight_of_convo}
 use Rattle.coretable.specs.Steps.{nothing}
@@ -13,10 +11,10 @@ use Rattle.coretable.proofs.StepLemmas.{book_moved, goes_back, moments_moved, mo
 use Rattle.coretable.proofs.completing.complete.Goals as goal
 
 pub returns-clause-turn : goal.returns-clause-turn
-returns-clause-turn g c t last handler m u owed set sound k act rest st =
-    completes (StandsFor (charge_by g.C.Charge.amount g.C.Charge.stamp) t) t last handler m u c.args.active c.args.desk.now c.note_due.new.desk c.put_back.new.desk c.note_moment.new.desk c.enter.new.desk owed c.ending-ending.result c.due-due.result sound k act rest st
-    (c.ending-ending.ensures t (talk_after t (beside (found_by (core_of t m) u.line) owed) u.line.act) st)
-    (c.due-due.ensures t (talk_after t (beside (found_by (core_of t m) u.line) owed) u.line.act) set st)
+returns-clause-turn g c t last handler m u set sound k act rest st =
+    completes (StandsFor (charge_by g.C.Charge.amount g.C.Charge.stamp) t) t last handler m u c.args.active c.args.desk.now c.note_due.new.desk c.put_back.new.desk c.note_moment.new.desk c.enter.new.desk c.ending-ending.result c.due-due.result sound k act rest st
+    (c.ending-ending.ensures t (talk_after t (talk_before t m u) u.line.act) st)
+    (c.due-due.ensures t (talk_after t (talk_before t m u) u.line.act) set st)
     c.note_due.ensures c.in_default.ensures.slots c.put_back.ensures.rest c.in-Ok.ensures.dues c.note_moment.ensures.rest
     (c.in-Ok-enter.ensures.book ∙ (λ i. c.note_moment.new.desk.book.items ++ record { conv = c.args.active.number; entry = c.entry_of.ensures i } ∷ [])) c.enter.ensures.rest
 

@@ -31,7 +31,7 @@ returns-in-Ok-take-clause-turn g c t last handler m p set s e k j s' =
     (subst (λ q. IsWantOf (charge_by g.C.Charge.amount g.C.Charge.stamp) (StandsFor (charge_by g.C.Charge.amount g.C.Charge.stamp) t c.active_of-active.result.talk) t (beside (new_convo (packet_of q)) nothing_beside) (Seg (packet_of q) q.now [] []) 0 c.in-Ok-take.want) same
     (subst (λ y. IsWantOf (charge_by g.C.Charge.amount g.C.Charge.stamp) (StandsFor (charge_by g.C.Charge.amount g.C.Charge.stamp) t y) t (beside (new_convo (packet_of c.in-Ok.packet)) nothing_beside) (Seg (packet_of c.in-Ok.packet) c.in-Ok.packet.now [] []) 0 c.in-Ok-take.want) (sym a.6)
     (c.in-Ok-take.ensures.turn t (beside (new_convo (packet_of c.in-Ok.packet)) nothing_beside) set (c.new-talk.ensures.stands t set)))) in
-    c.settle.ensures.turn t last handler (begun m (record { conv = p.number; act = Seg (packet_of p) p.now [] [] })) ready.u ready.owed set s' ready.keeps ready.active ready.fresh ready.turn
+    c.settle.ensures.turn t last handler (begun m (record { conv = p.number; act = Seg (packet_of p) p.now [] [] })) ready.u set s' ready.keeps ready.active ready.fresh ready.turn
 
 pub returns-in-Ok-take-clause-step : goal.returns-in-Ok-take-clause-step
 returns-in-Ok-take-clause-step g c =

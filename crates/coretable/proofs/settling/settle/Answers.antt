@@ -1,10 +1,8 @@
 use Rattle.flowdir.specs.Boundary.{charge_by}
 use Rattle.coretable.specs.Held.{StandsFor}
 use Rattle.std.proofs.Common.{subst, ap, sym, ◌+◌}
-use Rattle.streamdefs.specs.Core.{found_by}
 use Rattle.convo.specs.Talk.{IsWantOf}
-use Rattle.coretable.specs.Course.{core_of}
-use Rattle.coretable.specs.Standing.{beside}
+use Rattle.coretable.specs.Standing.{talk_before}
 use Rattle.coretable.proofs.StepLemmas.{no_more, put_as}
 use Rattle.coretable.specs.Weighed.{weight_of_active}
 use Rattle.convo.specs.Weights.{weight_of_want, weight_of_event}
@@ -12,24 +10,24 @@ use Rattle.convo.specs.Standing.{IsAskWithin}
 use Rattle.coretable.proofs.settling.settle.Goals as goal
 
 pub returns-in-Rest-clause-turn : goal.returns-in-Rest-clause-turn
-returns-in-Rest-clause-turn g c t last handler m u owed set s k act f turn =
-    c.settle_rest.ensures.turn t last handler m u owed set s k act f
-    (subst (λ w. IsWantOf (charge_by g.C.Charge.amount g.C.Charge.stamp) (StandsFor (charge_by g.C.Charge.amount g.C.Charge.stamp) t c.args.active.talk) t (beside (found_by (core_of t m) u.line) owed) u.line.act u.emitted w) c.in-Rest.is turn)
+returns-in-Rest-clause-turn g c t last handler m u set s k act f turn =
+    c.settle_rest.ensures.turn t last handler m u set s k act f
+    (subst (λ w. IsWantOf (charge_by g.C.Charge.amount g.C.Charge.stamp) (StandsFor (charge_by g.C.Charge.amount g.C.Charge.stamp) t c.args.active.talk) t (talk_before t m u) u.line.act u.emitted w) c.in-Rest.is turn)
 
 pub returns-in-Ask-clause-turn : goal.returns-in-Ask-clause-turn
-returns-in-Ask-clause-turn g c t last handler m u owed set s k act f turn =
-    c.settle_ask.ensures.turn t m u owed k act f
-    (subst (λ w. IsWantOf (charge_by g.C.Charge.amount g.C.Charge.stamp) (StandsFor (charge_by g.C.Charge.amount g.C.Charge.stamp) t c.args.active.talk) t (beside (found_by (core_of t m) u.line) owed) u.line.act u.emitted w) c.in-Ask.is turn)
+returns-in-Ask-clause-turn g c t last handler m u set s k act f turn =
+    c.settle_ask.ensures.turn t m u k act f
+    (subst (λ w. IsWantOf (charge_by g.C.Charge.amount g.C.Charge.stamp) (StandsFor (charge_by g.C.Charge.amount g.C.Charge.stamp) t c.args.active.talk) t (talk_before t m u) u.line.act u.emitted w) c.in-Ask.is turn)
 
 pub returns-in-Free-clause-turn : goal.returns-in-Free-clause-turn
-returns-in-Free-clause-turn g c t last handler m u owed set s k act f turn =
-    c.settle_free.ensures.turn t m u owed k act f
-    (subst (λ w. IsWantOf (charge_by g.C.Charge.amount g.C.Charge.stamp) (StandsFor (charge_by g.C.Charge.amount g.C.Charge.stamp) t c.args.active.talk) t (beside (found_by (core_of t m) u.line) owed) u.line.act u.emitted w) c.in-Free.is turn)
+returns-in-Free-clause-turn g c t last handler m u set s k act f turn =
+    c.settle_free.ensures.turn t m u k act f
+    (subst (λ w. IsWantOf (charge_by g.C.Charge.amount g.C.Charge.stamp) (StandsFor (charge_by g.C.Charge.amount g.C.Charge.stamp) t c.args.active.talk) t (talk_before t m u) u.line.act u.emitted w) c.in-Free.is turn)
 
 pub returns-in-Emit-clause-turn : goal.returns-in-Emit-clause-turn
-returns-in-Emit-clause-turn g c t last handler m u owed set s k act f turn =
-    c.settle_event.ensures.turn t m u owed k act f
-    (subst (λ w. IsWantOf (charge_by g.C.Charge.amount g.C.Charge.stamp) (StandsFor (charge_by g.C.Charge.amount g.C.Charge.stamp) t c.args.active.talk) t (beside (found_by (core_of t m) u.line) owed) u.line.act u.emitted w) c.in-Emit.is turn)
+returns-in-Emit-clause-turn g c t last handler m u set s k act f turn =
+    c.settle_event.ensures.turn t m u k act f
+    (subst (λ w. IsWantOf (charge_by g.C.Charge.amount g.C.Charge.stamp) (StandsFor (charge_by g.C.Charge.amount g.C.Charge.stamp) t c.args.active.talk) t (talk_before t m u) u.line.act u.emitted w) c.in-Emit.is turn)
 
 pub returns-in-Rest-clause-step : goal.returns-in-Rest-clause-step
 returns-in-Rest-clause-step g c within =

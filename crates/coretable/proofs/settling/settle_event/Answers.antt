@@ -8,8 +8,8 @@ use Rattle.convo.specs.Weights.{weight_of_event}
 use Rattle.coretable.proofs.settling.settle_event.Goals as goal
 
 pub returns-in-Ok-clause-turn : goal.returns-in-Ok-clause-turn
-returns-in-Ok-clause-turn g c t m u owed k act f turn =
-    emits (StandsFor (charge_by g.C.Charge.amount g.C.Charge.stamp) t) (charge_by g.C.Charge.amount g.C.Charge.stamp) t m u c.args.active c.args.desk.now c.note_event.new.desk owed c.args.event k act f turn
+returns-in-Ok-clause-turn g c t m u k act f turn =
+    emits (StandsFor (charge_by g.C.Charge.amount g.C.Charge.stamp) t) (charge_by g.C.Charge.amount g.C.Charge.stamp) t m u c.args.active c.args.desk.now c.note_event.new.desk c.args.event k act f turn
     (c.in-Ok.ensures.queue ∙ (λ i. c.args.desk.now.unanswered.items ++ record { place = c.args.active.place; of = c.kind_of-of.ensures i } ∷ [])) c.note_event.ensures.rest
 
 pub returns-in-Err-clause-step : goal.returns-in-Err-clause-step
