@@ -18,7 +18,7 @@ new_by core conv (Time at looks frees) e = rw (found_by, e) refl
 new_by core conv (End at reason looks frees) e = rw (found_by, e) refl
 
 -- the conversation that a history gives, where it has an entry
-abbrev convo_by : Terms → List Act → Option Convo
+abbrev pub convo_by : Terms → List Act → Option Convo
 convo_by t [] = None
 convo_by t (act ∷ acts) = Some (convo_after t (new_convo (opened_by act)) (act ∷ acts))
 
@@ -32,7 +32,7 @@ convo_one t core line lines id true e none rest =
 convo_one t core line lines id false e none rest =
     rest (find_put id line.conv (after t (found_by core line) line.act) core.convos ∙ ap (λ b. cond b (Some (after t (found_by core line) line.act)) (find_convo id core.convos)) e ∙ none)
 
-convo_is : (t : Terms) (core : Core) (lines : List Line) (id : ℕ) → find_convo id core.convos ≡ None → find_convo id (core_at t core lines).convos ≡ convo_by t (history id lines)
+pub convo_is : (t : Terms) (core : Core) (lines : List Line) (id : ℕ) → find_convo id core.convos ≡ None → find_convo id (core_at t core lines).convos ≡ convo_by t (history id lines)
 convo_is t core [] id none = none
 convo_is t core (line ∷ lines) id none = convo_one t core line lines id (line.conv == id) refl none (λ n. convo_is t (core_after t core line) lines id n)
 
@@ -41,7 +41,7 @@ convo_at : (t : Terms) (k : Talk) (acts : List Act) → (talk_at t k acts).convo
 convo_at t k [] = refl
 convo_at t k (act ∷ acts) = convo_at t (talk_after t k act) acts
 
-some_same : {x y : Convo} → Some x ≡ Some y → x ≡ y
+pub some_same : {x y : Convo} → Some x ≡ Some y → x ≡ y
 some_same e = cc
 
 given_by : (t : Terms) (acts : List Act) (c : Convo) → convo_by t acts ≡ Some c → (talk_by t acts).convo ≡ c

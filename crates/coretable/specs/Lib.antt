@@ -7,6 +7,7 @@ pub mod Rows
 pub mod Held
 pub mod Moments
 pub mod Standing
+pub mod Summed
 pub mod Turns
 pub mod Verdicts
 pub mod Falling
@@ -14,3 +15,4 @@ pub mod Weighed
 pub mod Fits
 pub mod Steps
 pub mod Table
+pub mod Left

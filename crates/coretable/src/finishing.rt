@@ -46,7 +46,7 @@ fn is_live_at<C: Charge>(desk: &Desk<Held<C>>, place: usize) -> Result<bool, Mem
 }
 
 /// How many conversations there are.
-fn count_slots<T: Drop>(desk: &Desk<T>) -> usize
+pub(crate) fn count_slots<T: Drop>(desk: &Desk<T>) -> usize
     ensures { result ≡ length desk.entry.now.slots.items }
 {
     desk.slots.len()

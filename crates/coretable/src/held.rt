@@ -5,21 +5,23 @@ ghost use Rattle.prio_budget.specs.declared.free.Free.{Free};
 ghost use Rattle.streamdefs.specs.Terms.{Terms};
 ghost use Rattle.streamdefs.specs.Reorder.{Charge as ChargeMade};
 ghost use Rattle.streamdefs.specs.View.{Ask as Request};
-ghost use Rattle.streamdefs.specs.Convo.{Act, Event as EventMade, has_other_base, is_live};
+ghost use Rattle.streamdefs.specs.Convo.{Act, Event as EventMade, has_other_base, is_live, new_convo};
+ghost use Rattle.streamdefs.specs.Totals.{total_of};
 ghost use Rattle.streamdefs.specs.Convo.Act.{Seg as SegAct, Answer as AnswerAct, Time as TimeAct, End as EndAct};
 ghost use Rattle.streamdefs.specs.Want.{want, with_look, with_free};
 ghost use Rattle.streamdefs.specs.Want.Want.{Reserve, Release, Emit as EmitWanted};
 ghost use Rattle.flowdir.specs.Boundary.{IsLookOf, charge_by, weight_of};
 ghost use Rattle.convo.specs.Weights.{weight_of_want, weight_of_chunks};
-ghost use Rattle.convo.specs.Talk.{Talk, SetsUp, IsAnswerTo, IsWantOf, asked_in, due_of, new_talk};
+ghost use Rattle.convo.specs.Talk.{Talk, SetsUp, IsAnswerTo, IsWantOf, asked_in, due_of, new_talk, talk_at};
 ghost use Rattle.convo.specs.Talk.Phase.{Still, Under};
 ghost use Rattle.convo.specs.Standing.{IsAskWithin, IsRest, weight_of_convo};
 ghost use Rattle.convo.specs.Seen.{packet_of};
 ghost use Rattle.coretable.specs.Held.{StandsFor, weight_of_some};
+ghost use Rattle.coretable.specs.Summed.{dir_in};
 
 use crate::Memory;
-use convo::{AnsweredEvent, Convo, ConvoSet, Want};
-use evring::{Advice, Kept, Reason};
+use convo::{AnsweredEvent, Convo, ConvoSet, DirTotal, Want, sums_are_those_of_the_history};
+use evring::{Advice, Kept, Reason, Way};
 use prio_budget::Charge;
 use std::alloc::Global;
 use std::marker::Model;
@@ -269,6 +271,15 @@ impl<C: Charge> Held<C> {
         ensures { (t : Terms) (k : Talk) → StandsFor (charge_by C.amount C.stamp) t self.now k Still → result ≡ k.owed }
     {
         self.talk.ending()
+    }
+
+    /// What became of the bytes of a direction.
+    pub(crate) fn total(&self, way: Way) -> DirTotal
+        ensures { (t : Terms) (k : Talk) (acts : List Act) → StandsFor (charge_by C.amount C.stamp) t self.now k Still → k.sums ≡ (talk_at t (new_talk k.convo.first) acts).sums
+            → result ≡ dir_in k.convo.first.number way (total_of t (new_convo k.convo.first) way acts) }
+    {
+        sums_are_those_of_the_history();
+        self.talk.total(way)
     }
 
     pub(crate) fn is_ended(&self) -> bool
