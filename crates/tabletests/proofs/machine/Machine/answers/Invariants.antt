@@ -1,0 +1,7 @@
+use Rattle.std.proofs.Common.{◌≡◌}
+use Rattle.coretable.specs.Table.{limit, paused}
+use Rattle.coretable.specs.declared.pause.Pause.TheVariants.{Still}
+use Rattle.tabletests.proofs.machine.Machine.answers.Given as goal
+
+abbrev pub invariant-events : goal.invariant-events
+invariant-events l = (paused l.self.table ≡ Still) × (l.self.budget.limit ≡ limit l.self.table)

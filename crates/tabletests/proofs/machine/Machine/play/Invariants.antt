@@ -1,0 +1,7 @@
+use Rattle.std.proofs.Common.{◌≡◌}
+use Rattle.coretable.specs.Table.{limit, paused}
+use Rattle.coretable.specs.declared.pause.Pause.TheVariants.{Still}
+use Rattle.tabletests.proofs.machine.Machine.play.Given as goal
+
+abbrev pub invariant-steps : goal.invariant-steps
+invariant-steps l = (paused l.self.table ≡ Still) × (l.self.budget.limit ≡ limit l.self.table)
