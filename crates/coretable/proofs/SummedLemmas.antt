@@ -1,16 +1,14 @@
 -- The totals that are told of the conversations kept are the definition's.
-use Rattle.std.specs.Prelude.{◌≡◌, refl, ℕ, zero, suc, ◌+◌, ◌≤◌, ◌<◌, List, [], ◌∷◌, ◌++◌, length, take, map, flat_map, Option, Some, None, slice_get}
+use Rattle.std.specs.Prelude.{◌≡◌, refl, ℕ, zero, suc, ◌+◌, ◌≤◌, ◌<◌, List, [], ◌∷◌, ◌++◌, length, take, map, flat_map, Some, None, slice_get}
 use Rattle.std.proofs.Common.{sym, ◌∙◌, ap, subst, arith}
 use Rattle.std.proofs.lemmas.Grind.{flat_map-append}
 use Rattle.evring.specs.declared.way.Way.{Way}
-use Rattle.evring.specs.declared.way.Way.TheVariants.{Fore, Back}
-use Rattle.streamdefs.specs.Both.{of_way}
 use Rattle.streamdefs.specs.Packet.{Packet}
 use Rattle.streamdefs.specs.Terms.{Terms}
 use Rattle.streamdefs.specs.Lawful.{Handler}
 use Rattle.streamdefs.specs.Convo.{Act, Convo, new_convo, after, convo_after}
 use Rattle.streamdefs.specs.Core.{Line, Open, history, idle_core, find_convo, core_at}
-use Rattle.streamdefs.specs.Totals.{Total, total_of, counts_of, deliveries_of, gaps_before}
+use Rattle.streamdefs.specs.Totals.{Total}
 use Rattle.streamdefs.specs.Report.{Tallied, tallied_on}
 use Rattle.convo.specs.declared.dir_total.DirTotal.{DirTotal}
 use Rattle.convo.specs.Talk.{IsTotal, Phase, Sums, Talk, bytes_in_gaps, kept_count, kept_counts, new_talk, talk_at}
@@ -19,7 +17,7 @@ use Rattle.coretable.specs.Course.{Course, core_of}
 use Rattle.coretable.specs.Lawfully.{IsSound}
 use Rattle.coretable.specs.Orderly.{Rises}
 use Rattle.coretable.specs.Standing.{beside, beside_of, opened_by, talk_by, talk_of, Recalls, AreSlots, IsSlotOf, Keeps, hole_of, present, with_under}
-use Rattle.coretable.specs.Summed.{dir_in, dirs_in, tallied_by, tallied_in, totals_on}
+use Rattle.coretable.specs.Summed.{Ascend, dir_in, dirs_in, tallied_by, tallied_in, totals_on}
 use Rattle.coretable.specs.declared.desk.Desk.{Desk}
 use Rattle.coretable.specs.declared.slot.Slot.{Slot}
 use Rattle.coretable.proofs.BeginLemmas.{slot_of}
@@ -27,7 +25,7 @@ use Rattle.coretable.proofs.CompleteLemmas.{first_stays, get_found}
 use Rattle.coretable.proofs.PlanLemmas.{keeps_some}
 use Rattle.coretable.proofs.OpenLemmas.{slots_many}
 use Rattle.coretable.proofs.Soundness.{at_rest}
-use Rattle.coretable.proofs.Told.{convo_by, convo_is, some_same}
+use Rattle.coretable.proofs.Told.{convo_by, convo_is, convo_told, some_same}
 use Rattle.coretable.proofs.WantLemmas.{got_mapped, take_all}
 
 -- What a conversation tells of a direction is the definition's total.
@@ -53,11 +51,22 @@ opened t (act ∷ acts) c e =
 pub talk_is : (t : Terms) (lines : List Line) (id : ℕ) (c : Convo) → find_convo id (core_at t idle_core lines).convos ≡ Some c → talk_of t lines id ≡ talk_at t (new_talk c.first) (history id lines)
 talk_is t lines id c e = opened t (history id lines) c (sym (convo_is t idle_core lines id refl) ∙ e)
 
+pub talk_beside : (t : Terms) (lines : List Line) (id : ℕ) (c : Convo) → find_convo id (core_at t idle_core lines).convos ≡ Some c → talk_of t lines id ≡ beside c (beside_of t lines id)
+talk_beside t lines id c e = ap (λ d. beside d (beside_of t lines id)) (convo_told t lines id c e)
+
 number_at : (from : ℕ) (os : List Open) (k : ℕ) (o : Open) → Rises from os → slice_get os k ≡ Some o → o.convo.first.number ≡ o.id
 number_at from [] zero o r g = absurd cc
 number_at from [] (suc k) o r g = absurd cc
 number_at from (x ∷ os) zero o r g = let same : x ≡ o = cc in subst (λ (z : Open). z.convo.first.number ≡ z.id) same r.1
 number_at from (x ∷ os) (suc k) o r g = number_at (suc x.id) os k o r.2 g
+
+-- Numbers of conversations rise.
+ascend_from : (t : Terms) (lines : List Line) (from : ℕ) (os : List Open) → Rises from os → Ascend from (flat_map dirs_in (map (tallied_in t lines) os))
+ascend_from t lines from [] r = tt
+ascend_from t lines from (o ∷ os) r = (r.0, refl, refl, refl, ascend_from t lines (suc o.id) os r.2)
+
+pub totals_ascend : (t : Terms) (last : ℕ) (handler : Handler) (m : Course) → IsSound t last handler m → m.under ≡ None → Ascend 0 (totals_on t m.lines)
+totals_ascend t last handler m sound e = ascend_from t m.lines 0 (core_of t m).convos (at_rest t last handler m sound e).rises
 
 -- Lists that are gone through place by place.
 take_more : {X : Type 0} (xs : List X) (n : ℕ) (x : X) → slice_get xs n ≡ Some x → take (suc n) xs ≡ take n xs ++ x ∷ []

@@ -1,8 +1,7 @@
 -- The totals that a table tells: those of the definition.
-use Rattle.std.specs.Prelude.{◌≡◌, ℕ, List, [], ◌∷◌, length, flat_map}
+use Rattle.std.specs.Prelude.{◌≡◌, ⊤, ℕ, suc, ◌≤◌, List, [], ◌∷◌, length, flat_map}
 use Rattle.evring.specs.declared.way.Way.{Way}
 use Rattle.evring.specs.declared.way.Way.TheVariants.{Fore, Back}
-use Rattle.streamdefs.specs.Both.{Both}
 use Rattle.streamdefs.specs.Packet.{Packet}
 use Rattle.streamdefs.specs.Terms.{Terms}
 use Rattle.streamdefs.specs.Convo.{Act, new_convo}
@@ -31,3 +30,9 @@ tallied_in t lines o = record { conv = o.id; totals = record { fore = total_of t
 -- the totals of a core's lines: those of its conversations, in the order in which they opened
 abbrev pub totals_on : Terms → List Line → List DirTotal
 totals_on t lines = flat_map dirs_in (tallied_on t lines)
+
+-- totals of conversations by ascending number, fore before back
+abbrev pub Ascend : ℕ → List DirTotal → Type 0
+Ascend from [] = ⊤
+Ascend from (fore ∷ []) = ⊥
+Ascend from (fore ∷ back ∷ dirs) = (from ≤ fore.conv) × (fore.way ≡ Fore) × (back.conv ≡ fore.conv) × (back.way ≡ Back) × Ascend (suc fore.conv) dirs
